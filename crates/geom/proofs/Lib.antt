@@ -1,1 +1,5 @@
 pub mod Constants
+pub mod Units
+pub mod Products
+mod RootSides
+pub mod Examples

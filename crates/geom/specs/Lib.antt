@@ -4,3 +4,6 @@ pub mod Size
 pub mod Length
 pub mod Fit
 pub mod Opacity
+pub mod Root
+pub mod Invertible
+pub mod Worked

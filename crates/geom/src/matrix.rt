@@ -1,5 +1,7 @@
 ghost use mathlib.Core.Path.{_≡_};
+ghost use Rattle.geom.specs.Invertible.{invertible};
 ghost use Rattle.geom.specs.Matrix.{identity, translation, product, finite-matrix, is-identity};
+use crate::invertible::is_exactly_invertible;
 
 /// A matrix maps x to `a*x + c*y + e` and y to `b*x + d*y + f`.
 #[derive(Clone, Copy)]
@@ -77,5 +79,12 @@ impl Matrix {
             & (self.d == 1.0)
             & (self.e == 0.0)
             & (self.f == 0.0)
+    }
+
+    /// Whether a·d ≠ b·c, neither product being rounded; a matrix that is not finite there is not invertible.
+    pub fn is_invertible(self) -> bool
+        ensures { λ r. ⌜ r ≡ invertible (self .a) (self .b) (self .c) (self .d) ⌝ }
+    {
+        is_exactly_invertible(self.a, self.b, self.c, self.d)
     }
 }
