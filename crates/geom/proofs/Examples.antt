@@ -8,7 +8,7 @@ use Rattle.geom.specs.Length.{in-unit}
 use Rattle.geom.specs.Size.{finite-size, valid-size}
 use Rattle.geom.specs.Fit.{fit, scales, across, down, aligned}
 use Rattle.geom.specs.Opacity.{plain}
-use Rattle.geom.specs.Root.{given, percent-side, root-side, root-sides, root-flag, size-refusal, root-size}
+use Rattle.geom.specs.Root.{side-or-full, percent-side, root-side, root-sides, root-flag, size-refusal, root-size}
 use Rattle.geom.specs.Worked.{Worked-lengths, Worked-root-sizes, Worked-fits, Worked-opacities, Worked-examples}
 
 lengths : Worked-lengths
@@ -16,7 +16,7 @@ unfolding in-unit decimal round odd units size span climb trailingZeros mul div
 lengths = (λ base F. refl, λ base dpi. refl)
 
 root-sizes : Worked-root-sizes
-unfolding root-size root-sides root-side percent-side given root-flag size-refusal finite-size valid-size finite in-unit decimal round odd units size span climb trailingZeros mul div lt
+unfolding root-size root-sides root-side percent-side side-or-full root-flag size-refusal finite-size valid-size finite in-unit decimal round odd units size span climb trailingZeros mul div lt
 root-sizes = (refl, refl, refl, refl)
 
 fits : Worked-fits

@@ -32,8 +32,8 @@ is-percent Pc = false
 is-percent Percent = true
 
 -- a missing side is 100%
-unfoldable pub given : Option Length → Length
-given side = valueOr side (record { number = whole 100; unit = Percent })
+unfoldable pub side-or-full : Option Length → Length
+side-or-full side = valueOr side (record { number = whole 100; unit = Percent })
 
 -- n percent: of the view box's side, or with no view box n itself
 unfoldable pub percent-side : Float → Option Float → Float
@@ -47,7 +47,7 @@ root-side l side dpi F = cond (is-percent (l .unit)) (percent-side (l .number) s
 -- both sides: with a view box and one side only, the other follows from the view box's proportions
 unfoldable pub root-sides : Option Length → Option Length → Option Rect → Float → Float → Size
 root-sides width height option.None dpi F =
-    record { w = root-side (given width) option.None dpi F; h = root-side (given height) option.None dpi F }
+    record { w = root-side (side-or-full width) option.None dpi F; h = root-side (side-or-full height) option.None dpi F }
 root-sides (option.Some width) option.None (option.Some v) dpi F =
     let w = root-side width (option.Some (v .w)) dpi F in
     record { w = w; h = v .h *f w /f v .w }
@@ -57,11 +57,11 @@ root-sides option.None (option.Some height) (option.Some v) dpi F =
 root-sides (option.Some width) (option.Some height) (option.Some v) dpi F =
     record { w = root-side width (option.Some (v .w)) dpi F; h = root-side height (option.Some (v .h)) dpi F }
 root-sides option.None option.None (option.Some v) dpi F =
-    record { w = root-side (given option.None) (option.Some (v .w)) dpi F; h = root-side (given option.None) (option.Some (v .h)) dpi F }
+    record { w = root-side (side-or-full option.None) (option.Some (v .w)) dpi F; h = root-side (side-or-full option.None) (option.Some (v .h)) dpi F }
 
 -- some side is a percent with no view box to be of
 unfoldable pub root-flag : Option Length → Option Length → Option Rect → Bool
-root-flag width height v = not (isSome v) && (is-percent (given width .unit) || is-percent (given height .unit))
+root-flag width height v = not (isSome v) && (is-percent (side-or-full width .unit) || is-percent (side-or-full height .unit))
 
 -- a size that is not finite is refused before one that is not valid
 unfoldable pub size-refusal : Size → Option Refusal

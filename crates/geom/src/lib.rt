@@ -21,6 +21,7 @@ pub use rect::Ruler;
 pub use rect::Size;
 pub use root::RootSize;
 pub use root::resolve_svg_size;
+pub use root::side_or_full;
 pub use view_box::Align;
 pub use view_box::Aspect;
 pub use view_box::ViewBox;

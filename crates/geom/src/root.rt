@@ -1,5 +1,5 @@
 ghost use mathlib.Core.Path.{_≡_};
-ghost use Rattle.geom.specs.Root.{given, is-percent, percent-side, root-side, root-sides, root-flag, size-refusal, root-size};
+ghost use Rattle.geom.specs.Root.{side-or-full, is-percent, percent-side, root-side, root-sides, root-flag, size-refusal, root-size};
 use crate::length::Direction;
 use crate::length::Length;
 use crate::length::Unit;
@@ -16,9 +16,9 @@ pub struct RootSize {
     pub flag: bool,
 }
 
-// A side that is missing is 100%.
-fn given(side: Option<Length>) -> Length
-    ensures { λ r. ⌜ r ≡ given side ⌝ }
+/// A side, or 100% where it is missing.
+pub fn side_or_full(side: Option<Length>) -> Length
+    ensures { λ r. ⌜ r ≡ side-or-full side ⌝ }
 {
     side.unwrap_or(Length {
         number: 100.0,
@@ -72,12 +72,12 @@ fn root_sides(
     ensures { λ r. ⌜ r ≡ root-sides width height «view_box» dpi «font_size» ⌝ }
 {
     let Some(rect) = view_box else {
-        let w = root_side(given(width), None, dpi, font_size);
-        let h = root_side(given(height), None, dpi, font_size);
+        let w = root_side(side_or_full(width), None, dpi, font_size);
+        let h = root_side(side_or_full(height), None, dpi, font_size);
         return Size { w, h };
     };
-    let w = root_side(given(width), Some(rect.w), dpi, font_size);
-    let h = root_side(given(height), Some(rect.h), dpi, font_size);
+    let w = root_side(side_or_full(width), Some(rect.w), dpi, font_size);
+    let h = root_side(side_or_full(height), Some(rect.h), dpi, font_size);
     match (width, height) {
         (Some(_), None) => Size {
             w,
@@ -96,7 +96,7 @@ fn root_sides(
 fn root_flag(width: Option<Length>, height: Option<Length>, view_box: Option<Rect>) -> bool
     ensures { λ r. ⌜ r ≡ root-flag width height «view_box» ⌝ }
 {
-    !view_box.is_some() & (is_percent(given(width)) | is_percent(given(height)))
+    !view_box.is_some() & (is_percent(side_or_full(width)) | is_percent(side_or_full(height)))
 }
 
 // Why a size is refused: one that is not finite before one that is not valid.
