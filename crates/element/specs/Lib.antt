@@ -1,3 +1,4 @@
 pub mod Words
 pub mod Forms
 pub mod Attributes
+pub mod Roles

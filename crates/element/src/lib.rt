@@ -8,6 +8,7 @@ pub use element::Element;
 pub use value::ATTRIBUTES;
 pub use value::Attribute;
 pub use value::Kind;
+pub use value::Role;
 pub use value::Value;
 pub use word::Word;
 pub use word::word_of;

@@ -1,6 +1,7 @@
 ghost use mathlib.Core.Path.{_≡_};
 ghost use Prim.Native.Nat.{_<_};
 ghost use Rattle.element.specs.Attributes.{place-of};
+ghost use Rattle.element.specs.Roles.{role-of};
 ghost use Rattle.element.specs.Forms.{as-length, as-rect, as-matrix, as-aspect, as-number, as-word};
 use crate::word::Word;
 use geom::Align;
@@ -25,6 +26,39 @@ pub enum Kind {
     Polygon,
     Path,
     Other,
+}
+
+/// What an element is to the rules of groups: the seven leaves are one.
+#[derive(Clone, Copy, PartialEq, Eq)]
+pub enum Role {
+    Svg,
+    G,
+    Use,
+    Symbol,
+    Leaf,
+    Other,
+}
+
+impl Kind {
+    /// What an element of this kind is to the rules of groups.
+    pub fn role(self) -> Role
+        ensures { λ r. ⌜ r ≡ role-of self ⌝ }
+    {
+        match self {
+            Kind::Svg => Role::Svg,
+            Kind::G => Role::G,
+            Kind::Use => Role::Use,
+            Kind::Symbol => Role::Symbol,
+            Kind::Rect => Role::Leaf,
+            Kind::Circle => Role::Leaf,
+            Kind::Ellipse => Role::Leaf,
+            Kind::Line => Role::Leaf,
+            Kind::Polyline => Role::Leaf,
+            Kind::Polygon => Role::Leaf,
+            Kind::Path => Role::Leaf,
+            Kind::Other => Role::Other,
+        }
+    }
 }
 
 /// The names of attributes.

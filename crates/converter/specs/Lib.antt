@@ -1,0 +1,6 @@
+pub mod State
+pub mod Drawn
+pub mod Rectangle
+pub mod Clip
+pub mod Groups
+pub mod Rules

@@ -1,0 +1,20 @@
+//! The rules of groups: for one element, given what holds outside it, the groups it puts round its content and what holds inside.
+
+mod clip;
+mod drawn;
+mod groups;
+mod rectangle;
+mod root;
+mod rules;
+mod state;
+
+pub use drawn::is_drawn;
+pub use root::convert_root;
+pub use rules::Converted;
+pub use rules::convert_g;
+pub use rules::convert_group;
+pub use rules::convert_leaf;
+pub use rules::convert_svg;
+pub use rules::convert_symbol;
+pub use rules::convert_use;
+pub use state::State;

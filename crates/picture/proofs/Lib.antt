@@ -1,0 +1,13 @@
+pub mod Lists
+pub mod Scripts
+pub mod Pictures
+pub mod Outlines
+pub mod Feeding
+pub mod Paths
+pub mod Nests
+pub mod Documents
+pub mod Members
+pub mod Stretches
+pub mod Orders
+pub mod Locality
+pub mod Samples

@@ -1,0 +1,10 @@
+pub mod Script
+pub mod Picture
+pub mod Outline
+pub mod Feeding
+pub mod Nodes
+pub mod Rules
+pub mod Document
+pub mod Brackets
+pub mod Locality
+pub mod Sample
