@@ -4,3 +4,4 @@ pub mod Rectangle
 pub mod Clip
 pub mod Groups
 pub mod Rules
+pub mod Laws

@@ -17,4 +17,6 @@ pub use rules::convert_leaf;
 pub use rules::convert_svg;
 pub use rules::convert_symbol;
 pub use rules::convert_use;
+pub use rules::convert_use_other;
+pub use rules::convert_use_symbol;
 pub use state::State;

@@ -1,4 +1,5 @@
 ghost use mathlib.Core.Path.{_≡_};
+ghost use Rattle.converter.specs.Laws.{Accepted, All-good};
 ghost use Rattle.converter.specs.Rules.{root-fit, root-group, root-viewport, convert-root};
 use crate::groups::plain_group;
 use crate::groups::spare_group;
@@ -62,7 +63,8 @@ pub fn convert_root(
     dpi: f32,
     font_size: f32,
 ) -> Result<Converted, Refusal>
-    ensures { λ r. ⌜ r ≡ convert-root (now (element .entry)) size dpi «font_size» ⌝ }
+    ensures rule { λ r. ⌜ r ≡ convert-root (now (element .entry)) size dpi «font_size» ⌝ }
+    ensures groups_are_good { λ r. ⌜ Accepted r (All-good (now (element .entry))) ⌝ }
 {
     let fit = root_fit(element, size);
     let inner = spare_group(element.matrix(), Matrix::default(), element.opacity());

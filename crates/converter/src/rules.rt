@@ -1,8 +1,11 @@
 ghost use mathlib.Core.Path.{_≡_};
+ghost use mathlib.Core.Bool.{true};
 ghost use Rattle.std.specs.Options.{mapped};
-ghost use Rattle.element.specs.Attributes.{length-of};
+ghost use Rattle.geom.specs.Matrix.{product, finite-matrix};
+ghost use Rattle.element.specs.Attributes.{length-of, matrix-of};
 ghost use Rattle.element.specs.Roles.{role-of};
 ghost use Rattle.converter.specs.Groups.{if-finite};
+ghost use Rattle.converter.specs.Laws.{Accepted, Svg-clips, Symbol-clips, Own-then-placing, Own-then-symbol, Alone, All-good, svg-placing, symbol-placing, use-translation};
 ghost use Rattle.converter.specs.Rectangle.{measured};
 ghost use Rattle.converter.specs.Rules.{convert-leaf, convert-g, svg-groups, finite-placing, convert-svg, use-symbol-groups, convert-use-symbol, use-size, finite-or-none, convert-use-other, convert-symbol, bare, is-symbol, convert-use, convert-group};
 use crate::clip::svg_clip;
@@ -47,7 +50,9 @@ pub fn if_finite(ok: bool, converted: Converted) -> Result<Converted, Refusal>
 
 /// A leaf's mark stands in a spare group with its own matrix.
 pub fn convert_leaf(element: &Element, state: &State) -> Result<Converted, Refusal>
-    ensures { λ r. ⌜ r ≡ convert-leaf (now (element .entry)) (now (state .entry)) ⌝ }
+    ensures rule { λ r. ⌜ r ≡ convert-leaf (now (element .entry)) (now (state .entry)) ⌝ }
+    ensures own_matrix_alone { λ r. ⌜ Accepted r (λ c. Alone (c .inner) (c .outer) (matrix-of (now (element .entry)))) ⌝ }
+    ensures groups_are_good { λ r. ⌜ Accepted r (All-good (now (element .entry))) ⌝ }
 {
     let own = element.matrix();
     let inner = spare_group(own, own, element.opacity());
@@ -64,7 +69,9 @@ pub fn convert_leaf(element: &Element, state: &State) -> Result<Converted, Refus
 
 /// A g is always a group.
 pub fn convert_g(element: &Element, state: &State) -> Result<Converted, Refusal>
-    ensures { λ r. ⌜ r ≡ convert-g (now (element .entry)) (now (state .entry)) ⌝ }
+    ensures rule { λ r. ⌜ r ≡ convert-g (now (element .entry)) (now (state .entry)) ⌝ }
+    ensures own_matrix_alone { λ r. ⌜ Accepted r (λ c. Alone (c .outer) (c .inner) (matrix-of (now (element .entry)))) ⌝ }
+    ensures groups_are_good { λ r. ⌜ Accepted r (All-good (now (element .entry))) ⌝ }
 {
     let own = element.matrix();
     let outer = Some(plain_group(element.id(), own, element.opacity()));
@@ -116,7 +123,10 @@ fn svg_groups(element: &Element, placing: Matrix, clip: Option<Rect>, inside: St
 
 /// A nested svg: its resolved rectangle clips it, or not, and its view box is fitted into that.
 pub fn convert_svg(element: &Element, state: &State) -> Result<Converted, Refusal>
-    ensures { λ r. ⌜ r ≡ convert-svg (now (element .entry)) (now (state .entry)) ⌝ }
+    ensures rule { λ r. ⌜ r ≡ convert-svg (now (element .entry)) (now (state .entry)) ⌝ }
+    ensures clips_to_its_rectangle { λ r. ⌜ Accepted r (Svg-clips (now (element .entry)) (now (state .entry))) ⌝ }
+    ensures own_matrix_then_placing { λ r. ⌜ Accepted r (Own-then-placing (matrix-of (now (element .entry))) (svg-placing (now (element .entry)) (now (state .entry)))) ⌝ }
+    ensures groups_are_good { λ r. ⌜ Accepted r (All-good (now (element .entry))) ⌝ }
 {
     let rect = resolve_rect(element, state.use_size, state);
     let view_box = element.view_box();
@@ -165,7 +175,10 @@ pub fn convert_use_symbol(
     symbol: &Element,
     state: &State,
 ) -> Result<Converted, Refusal>
-    ensures { λ r. ⌜ r ≡ convert-use-symbol (now (element .entry)) (now (symbol .entry)) (now (state .entry)) ⌝ }
+    ensures rule { λ r. ⌜ r ≡ convert-use-symbol (now (element .entry)) (now (symbol .entry)) (now (state .entry)) ⌝ }
+    ensures clips_to_its_rectangle { λ r. ⌜ Accepted r (Symbol-clips (now (element .entry)) (now (symbol .entry)) (now (state .entry))) ⌝ }
+    ensures own_matrix_then_placing { λ r. ⌜ Accepted r (Own-then-symbol (matrix-of (now (element .entry))) (symbol-placing (now (element .entry)) (now (symbol .entry)) (now (state .entry)))) ⌝ }
+    ensures groups_are_good { λ r. ⌜ Accepted r (All-good (now (element .entry))) ⌝ }
 {
     let rect = resolve_rect(element, (None, None), state);
     let view_box = symbol.view_box();
@@ -227,7 +240,9 @@ pub fn convert_use_other(
     child: Role,
     state: &State,
 ) -> Result<Converted, Refusal>
-    ensures { λ r. ⌜ r ≡ convert-use-other (now (element .entry)) child (now (state .entry)) ⌝ }
+    ensures rule { λ r. ⌜ r ≡ convert-use-other (now (element .entry)) child (now (state .entry)) ⌝ }
+    ensures own_matrix_then_translation { λ r. ⌜ Accepted r (λ c. Alone (c .outer) (c .inner) (product (matrix-of (now (element .entry))) (use-translation (now (element .entry)) (now (state .entry))))) ⌝ }
+    ensures groups_are_good { λ r. ⌜ Accepted r (All-good (now (element .entry))) ⌝ }
 {
     let x = position(state, Direction::Across, element.length(Attribute::X));
     let y = position(state, Direction::Down, element.length(Attribute::Y));
@@ -248,7 +263,9 @@ pub fn convert_use_other(
 
 /// A used symbol's own group, which is spare; its use has found the matrix finite.
 pub fn convert_symbol(element: &Element, state: &State) -> Converted
-    ensures { λ r. ⌜ r ≡ convert-symbol (now (element .entry)) (now (state .entry)) ⌝ }
+    ensures rule { λ r. ⌜ r ≡ convert-symbol (now (element .entry)) (now (state .entry)) ⌝ }
+    ensures placing_alone { λ r. ⌜ Alone (r .inner) (r .outer) ((now (state .entry)) .«symbol_matrix») ⌝ }
+    ensures groups_are_good { λ r. ⌜ (finite-matrix ((now (state .entry)) .«symbol_matrix») ≡ true → All-good (now (element .entry)) r) ⌝ }
 {
     let inner = spare_group(element.matrix(), state.symbol_matrix, element.opacity());
     Converted {
