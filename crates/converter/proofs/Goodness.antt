@@ -89,9 +89,9 @@ svg-good e s =
     let clip = svg-clip e s r in
     accepted _ _ (All-good e)
     (λ ok.
-      let f = and-true (finite-rect r) (finite-placing (matrix-of e) N clip) ok in
-      good-svg e N clip s (viewport (view-box-of e) r (s .ruler)) (f .1)
-      (good-tested (keeps-in e r && (both-set e || from-use s)) r (λ h. kept-valid e r (and-true (keeps-in e r) (both-set e || from-use s) h .0)) (f .0)))
+    let f = and-true (finite-rect r) (finite-placing (matrix-of e) N clip) ok in
+    good-svg e N clip s (viewport (view-box-of e) r (s .ruler)) (f .1)
+    (good-tested (keeps-in e r && (both-set e || from-use s)) r (λ h. kept-valid e r (and-true (keeps-in e r) (both-set e || from-use s) h .0)) (f .0)))
 
 pub use-symbol-good : (e symbol : Element) (s : State) → Accepted (convert-use-symbol e symbol s) (All-good e)
 unfolding convert-use-symbol symbol-clip
@@ -101,8 +101,8 @@ use-symbol-good e symbol s =
     let clip = symbol-clip symbol r in
     accepted _ _ (All-good e)
     (λ ok.
-      let f = and-true (finite-rect r) (finite-placing (matrix-of e) N clip) ok in
-      good-use-symbol e N clip s (viewport (view-box-of symbol) r (s .ruler)) (f .1) (good-tested (keeps-in symbol r) r (kept-valid symbol r) (f .0)))
+    let f = and-true (finite-rect r) (finite-placing (matrix-of e) N clip) ok in
+    good-use-symbol e N clip s (viewport (view-box-of symbol) r (s .ruler)) (f .1) (good-tested (keeps-in symbol r) r (kept-valid symbol r) (f .0)))
 
 pub use-other-good : (e : Element) (child : Role) (s : State) → Accepted (convert-use-other e child s) (All-good e)
 unfolding convert-use-other sized
@@ -127,7 +127,8 @@ unfolding convert-root root-group
 root-good e size dpi F =
     let m = root-fit e size in
     accepted _ _ (All-good e)
-    (λ ok o.
-      (elim (is-identity m) as (λ b. Good (cond b None (Some (group 0 m (whole 1))))) [ true ↦ tt | false ↦ good-plain 0 m (whole 1) ok good-one ],
-       good-spare (matrix-of e) identity (opacity-of e) finite-identity o,
-       finite-identity))
+    (λ ok o. (
+      elim (is-identity m) as (λ b. Good (cond b None (Some (group 0 m (whole 1))))) [ true ↦ tt | false ↦ good-plain 0 m (whole 1) ok good-one ],
+      good-spare (matrix-of e) identity (opacity-of e) finite-identity o,
+      finite-identity,
+    ))

@@ -115,10 +115,10 @@ svg-clips-to e s =
     let b = keeps-in e r && (both-set e || from-use s) in
     accepted _ _ (Svg-clips e s)
     (λ ok.
-      tested (svg-groups e N (svg-clip e s r) inside) r b (Kept-in e r × Sized e s)
-      (λ h. let k = and-true (keeps-in e r) (both-set e || from-use s) h in (kept e r (k .0), sized-if e s (k .1)))
-      (λ (k, z). true-and (keeps-in e r) (both-set e || from-use s) (keeps e r k) (if-sized e s z))
-      (svg-clips e N (svg-clip e s r) inside))
+    tested (svg-groups e N (svg-clip e s r) inside) r b (Kept-in e r × Sized e s)
+    (λ h. let k = and-true (keeps-in e r) (both-set e || from-use s) h in (kept e r (k .0), sized-if e s (k .1)))
+    (λ (k, z). true-and (keeps-in e r) (both-set e || from-use s) (keeps e r k) (if-sized e s z))
+    (svg-clips e N (svg-clip e s r) inside))
 
 pub symbol-clips-to : (e symbol : Element) (s : State) → Accepted (convert-use-symbol e symbol s) (Symbol-clips e symbol s)
 unfolding convert-use-symbol symbol-clip
@@ -128,8 +128,8 @@ symbol-clips-to e symbol s =
     let ruler = viewport (view-box-of symbol) r (s .ruler) in
     accepted _ _ (Symbol-clips e symbol s)
     (λ ok.
-      tested (use-symbol-groups e N (symbol-clip symbol r) s ruler) r (keeps-in symbol r) (Kept-in symbol r) (kept symbol r) (keeps symbol r)
-      (use-symbol-clips e N (symbol-clip symbol r) s ruler))
+    tested (use-symbol-groups e N (symbol-clip symbol r) s ruler) r (keeps-in symbol r) (Kept-in symbol r) (kept symbol r) (keeps symbol r)
+    (use-symbol-clips e N (symbol-clip symbol r) s ruler))
 
 -- ---- matrices
 

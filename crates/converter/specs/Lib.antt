@@ -5,3 +5,4 @@ pub mod Clip
 pub mod Groups
 pub mod Rules
 pub mod Laws
+pub mod Worked

@@ -7,6 +7,7 @@ mod rectangle;
 mod root;
 mod rules;
 mod state;
+mod worked;
 
 pub use drawn::is_drawn;
 pub use root::convert_root;
@@ -20,3 +21,4 @@ pub use rules::convert_use;
 pub use rules::convert_use_other;
 pub use rules::convert_use_symbol;
 pub use state::State;
+pub use worked::all_worked_examples_stand;

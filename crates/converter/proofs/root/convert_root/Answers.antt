@@ -10,5 +10,5 @@ returns c =
     let e : c .if-finite .result ≡ convert-root (c .args .element .now) (c .args .size) (c .args .dpi) (c .args .font-size) = cc in
     record {
       rule = e;
-      groups-are-good = subst (λ r. Accepted r (All-good (c .args .element .now))) (sym e) (root-good (c .args .element .now) (c .args .size) (c .args .dpi) (c .args .font-size))
+      groups-are-good = subst (λ r. Accepted r (All-good (c .args .element .now))) (sym e) (root-good (c .args .element .now) (c .args .size) (c .args .dpi) (c .args .font-size));
     }

@@ -13,5 +13,5 @@ returns c =
     record {
       rule = e;
       own-matrix-alone = subst (λ r. Accepted r (λ d. Alone (d .inner) (d .outer) (matrix-of (c .args .element .now)))) (sym e) (leaf-alone (c .args .element .now) (c .args .state .now));
-      groups-are-good = subst (λ r. Accepted r (All-good (c .args .element .now))) (sym e) (leaf-good (c .args .element .now) (c .args .state .now))
+      groups-are-good = subst (λ r. Accepted r (All-good (c .args .element .now))) (sym e) (leaf-good (c .args .element .now) (c .args .state .now));
     }

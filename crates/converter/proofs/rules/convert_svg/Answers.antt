@@ -14,5 +14,5 @@ returns c =
       rule = e;
       clips-to-its-rectangle = subst (λ r. Accepted r (Svg-clips (c .args .element .now) (c .args .state .now))) (sym e) (svg-clips-to (c .args .element .now) (c .args .state .now));
       own-matrix-then-placing = subst (λ r. Accepted r (Own-then-placing (matrix-of (c .args .element .now)) (svg-placing (c .args .element .now) (c .args .state .now)))) (sym e) (svg-own-then-placing (c .args .element .now) (c .args .state .now));
-      groups-are-good = subst (λ r. Accepted r (All-good (c .args .element .now))) (sym e) (svg-good (c .args .element .now) (c .args .state .now))
+      groups-are-good = subst (λ r. Accepted r (All-good (c .args .element .now))) (sym e) (svg-good (c .args .element .now) (c .args .state .now));
     }

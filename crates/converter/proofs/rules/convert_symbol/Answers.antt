@@ -18,5 +18,5 @@ returns c =
     record {
       rule = e;
       placing-alone = subst (λ r. Alone (r .inner) (r .outer) ((c .args .state .now) .«symbol_matrix»)) (sym e) (symbol-alone (c .args .element .now) (c .args .state .now));
-      groups-are-good = λ f. subst (λ r. All-good (c .args .element .now) r) (sym e) (symbol-good (c .args .element .now) (c .args .state .now) f)
+      groups-are-good = λ f. subst (λ r. All-good (c .args .element .now) r) (sym e) (symbol-good (c .args .element .now) (c .args .state .now) f);
     }

@@ -14,5 +14,5 @@ returns c =
     record {
       rule = e;
       own-matrix-then-translation = subst (λ r. Accepted r (λ d. Alone (d .outer) (d .inner) (product (matrix-of (c .args .element .now)) (use-translation (c .args .element .now) (c .args .state .now))))) (sym e) (use-alone (c .args .element .now) (c .args .child) (c .args .state .now));
-      groups-are-good = subst (λ r. Accepted r (All-good (c .args .element .now))) (sym e) (use-other-good (c .args .element .now) (c .args .child) (c .args .state .now))
+      groups-are-good = subst (λ r. Accepted r (All-good (c .args .element .now))) (sym e) (use-other-good (c .args .element .now) (c .args .child) (c .args .state .now));
     }

@@ -14,5 +14,5 @@ returns c =
       rule = e;
       clips-to-its-rectangle = subst (λ r. Accepted r (Symbol-clips (c .args .element .now) (c .args .symbol .now) (c .args .state .now))) (sym e) (symbol-clips-to (c .args .element .now) (c .args .symbol .now) (c .args .state .now));
       own-matrix-then-placing = subst (λ r. Accepted r (Own-then-symbol (matrix-of (c .args .element .now)) (symbol-placing (c .args .element .now) (c .args .symbol .now) (c .args .state .now)))) (sym e) (use-own-then-symbol (c .args .element .now) (c .args .symbol .now) (c .args .state .now));
-      groups-are-good = subst (λ r. Accepted r (All-good (c .args .element .now))) (sym e) (use-symbol-good (c .args .element .now) (c .args .symbol .now) (c .args .state .now))
+      groups-are-good = subst (λ r. Accepted r (All-good (c .args .element .now))) (sym e) (use-symbol-good (c .args .element .now) (c .args .symbol .now) (c .args .state .now));
     }
