@@ -65,7 +65,7 @@ kept-valid e r h = and-true (valid-rect r) _ h .0
 
 good-svg : (e : Element) (N : Matrix) (clip : Option Rect) (s : State) (ruler : Ruler)
     → finite-placing (matrix-of e) N clip ≡ true → good-clip clip ≡ true → All-good e (svg-groups e N clip (ruled s ruler))
-unfolding svg-groups finite-placing clip-group ruled
+unfolding svg-groups finite-placing clip-group ruled framed
 good-svg e N None s ruler p q o =
     (tt, good-spare (matrix-of e) (product (matrix-of e) N) (opacity-of e) (and-true (finite-matrix N) (finite-matrix (product (matrix-of e) N)) p .1) o, finite-identity)
 good-svg e N (Some r) s ruler p q o =
@@ -111,15 +111,15 @@ use-other-good e child s =
     accepted _ _ (All-good e) (λ ok o. (good-plain (id-of e) m (opacity-of e) (and-true _ (finite-matrix m) ok .1) o, tt, finite-identity))
 
 pub leaf-good : (e : Element) (s : State) → Accepted (convert-leaf e s) (All-good e)
-unfolding convert-leaf ruled
+unfolding convert-leaf ruled framed
 leaf-good e s = accepted _ _ (All-good e) (λ ok o. (tt, good-spare (matrix-of e) (matrix-of e) (opacity-of e) ok o, finite-identity))
 
 pub g-good : (e : Element) (s : State) → Accepted (convert-g e s) (All-good e)
-unfolding convert-g ruled
+unfolding convert-g ruled framed
 g-good e s = accepted _ _ (All-good e) (λ ok o. (good-plain (id-of e) (matrix-of e) (opacity-of e) ok o, tt, finite-identity))
 
 pub symbol-good : (e : Element) (s : State) → finite-matrix (s .«symbol_matrix») ≡ true → All-good e (convert-symbol e s)
-unfolding convert-symbol ruled
+unfolding convert-symbol ruled framed
 symbol-good e s f o = (tt, good-spare (matrix-of e) (s .«symbol_matrix») (opacity-of e) f o, finite-identity)
 
 pub root-good : (e : Element) (size : Size) (dpi F : Float) → Accepted (convert-root e size dpi F) (All-good e)

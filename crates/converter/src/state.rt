@@ -20,12 +20,7 @@ impl State {
     pub fn ruled(&self, ruler: Ruler) -> State
         ensures { λ r. ⌜ r ≡ ruled (now (self .entry)) ruler ⌝ }
     {
-        State {
-            ruler,
-            dpi: self.dpi,
-            use_size: (None, None),
-            symbol_matrix: Matrix::default(),
-        }
+        self.framed(ruler, Matrix::default())
     }
 
     /// The state inside a use that hands these sizes to its child.
