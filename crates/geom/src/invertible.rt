@@ -3,7 +3,7 @@
 ghost use mathlib.Core.Bool.{_&&_};
 ghost use mathlib.Core.Path.{_≡_};
 ghost use Rattle.std.specs.Floats.{finite};
-ghost use Rattle.geom.specs.Invertible.{invertible, Units-exact};
+ghost use Rattle.geom.specs.Invertible.{invertible, Units-exact, Same-is-equality};
 
 /// Whether a·d ≠ b·c, neither product being rounded. A matrix with a number that is not finite is not invertible.
 /// An f64 holds the product of two f32 exactly.
@@ -19,9 +19,10 @@ fn are_finite(a: f32, b: f32, c: f32, d: f32) -> bool
     a.is_finite() && b.is_finite() && c.is_finite() && d.is_finite()
 }
 
-/// Every finite f32 is a whole number of the units by which `is_exactly_invertible` is defined.
+/// Every finite f32 is a whole number of the units by which `is_exactly_invertible` is defined, and these are compared rightly.
 pub fn units_are_exact() -> u8
-    ensures { λ _. ⌜ Units-exact ⌝ }
+    ensures lossless { λ _. ⌜ Units-exact ⌝ }
+    ensures compared { λ _. ⌜ Same-is-equality ⌝ }
 {
     0
 }
