@@ -38,7 +38,10 @@ impl Rect {
     pub fn is_valid(self) -> bool
         ensures { λ r. ⌜ r ≡ valid-rect self ⌝ }
     {
-        self.w > 0.0 && self.h > 0.0
+        Size {
+            w: self.w,
+            h: self.h,
+        }.is_valid()
     }
 
     /// Whether no number of it is an infinity or not a number.
