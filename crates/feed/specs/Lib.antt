@@ -1,0 +1,4 @@
+pub mod Feeding
+pub mod Whole
+pub mod Accepting
+pub mod Shown

@@ -1,0 +1,9 @@
+pub mod Outcomes
+pub mod Counting
+pub mod Bounds
+pub mod Begins
+pub mod Passing
+pub mod Equals
+pub mod Stripping
+pub mod Framing
+pub mod Lawful

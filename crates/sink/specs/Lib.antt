@@ -1,0 +1,10 @@
+pub mod Fault
+pub mod Script
+pub mod Zeroed
+pub mod Equal
+pub mod Meaning
+pub mod Base
+pub mod Bounds
+pub mod Calls
+pub mod Layers
+pub mod Laws

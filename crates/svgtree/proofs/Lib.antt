@@ -1,0 +1,11 @@
+pub mod Bounds
+pub mod Reading
+pub mod Editing
+pub mod Tying
+pub mod Following
+pub mod Placing
+pub mod Beginning
+pub mod Calling
+pub mod Resting
+pub mod Running
+pub mod Sounding

@@ -1,0 +1,10 @@
+pub mod Limits
+pub mod Allowed
+pub mod Model
+pub mod Steps
+pub mod Memory
+pub mod Links
+pub mod Edits
+pub mod Calls
+pub mod Sound
+pub mod Runs
