@@ -1,0 +1,9 @@
+mod Finite
+mod Scans
+mod Levels
+mod Nesting
+mod Growing
+mod Keeping
+mod Steps
+mod Calls
+mod Reading
