@@ -1,37 +1,28 @@
 -- A list of records is accepted exactly when the sink's meaning takes it. Assumes nothing.
 use mathlib.Core.Path.{_≡_, refl, sym, ap, subst, _∙_}
-use mathlib.Core.Logic.{_⊎_, inl, inr, ⊎-elim}
 use mathlib.Core.List.{List, [], _∷_, _++_, map, append-assoc}
-use mathlib.Core.Bool.{Bool, true, false, cond, not}
-use Prim.Native.Nat.{ℕ, zero, suc, _+_, _-_, _≤_, _<_}
+use mathlib.Core.Bool.{true, false, not}
+use Prim.Native.Nat.{ℕ, zero, suc, _+_, _≤_}
 use native.Mathlib.Omega.{arith}
-use native.Mathlib.Nat.{not-suc-le-zero}
-use lib.IntN.{ℤ, pos, negsuc}
-use lib.Signed.{ltZ}
-use lib.ListN.{length, replicate, take, length-append}
-use lib.Dec.{leb, ltb, eqb}
+use lib.ListN.{length}
+use lib.Dec.{leb, eqb}
 use Rattle.std.specs.shelf.Lists.{All}
 use Rattle.std.proofs.shelf.Ways.{tells}
-use Rattle.std.proofs.shelf.Tests.{not-true, not-false, cases-lt}
-use Rattle.std.proofs.shelf.Lists.{append-nil, take-all, take-append-le, take-at}
-use Rattle.std.specs.declared.option.Option.{Option}
-use Rattle.std.specs.declared.option.Option.the-variants.{Some, None}
-use Rattle.std.specs.declared.result.Result.{Result}
-use Rattle.std.specs.declared.result.Result.the-variants.{Ok, Err}
+use Rattle.std.proofs.shelf.Lists.{append-nil}
+use Rattle.std.specs.declared.option.Option.the-variants.{Some}
+use Rattle.std.specs.declared.result.Result.the-variants.{Ok}
 use Rattle.picture.specs.Script.{open-after}
 use Rattle.picture.proofs.Scripts.{balanced-from-count, count-from-balanced}
 use Rattle.record.specs.declared.Group.{Group}
 use Rattle.record.specs.declared.Mark.{Mark}
 use Rattle.record.specs.declared.Record.{Record}
 use Rattle.record.specs.declared.Record.the-variants as variants
-use Rattle.record.specs.Good.{good-record, good-group, good-mark}
+use Rattle.record.specs.Good.{good-record}
 use Rattle.record.specs.Zero.{zeroed-group, zeroed-mark}
-use Rattle.sink.specs.declared.fault.SinkFault.{SinkFault}
-use Rattle.sink.specs.declared.fault.SinkFault.the-variants.{OutOfTurn, NotGood, TooDeep, NoPlaces}
 use Rattle.sink.specs.Script.{opens, closes, places, level}
 use Rattle.sink.specs.Base.{base-opened, base-closed}
 use Rattle.sink.specs.Meaning.{Meaning, Limit, most-open, exceeds, rewritten, entered}
-use Rattle.sink.specs.Calls.{Tried, Checks, checked, then, room-checks, open-checks, mark-checks, close-checks, end-checks, open-all, settle, cleared, with-script, begin-step, end-step}
+use Rattle.sink.specs.Calls.{open-all, with-script, begin-step, end-step}
 use Rattle.sink.proofs.Outcomes.{check-passed}
 use Rattle.sink.proofs.Counting.{opens-append, closes-append, places-append}
 use Rattle.sink.proofs.Bounds.{Fine, fewer, shallow-at, fine-close, fine-closes}

@@ -1,6 +1,6 @@
 -- Records that are fed one by one. Assumes nothing.
-use mathlib.Core.Path.{_≡_, refl, sym, ap, _∙_}
-use mathlib.Core.List.{List, [], _∷_}
+use mathlib.Core.Path.{_≡_, refl}
+use mathlib.Core.List.{List}
 use Prim.Native.Nat.{ℕ, _+_, _≤_, _<_}
 use native.Mathlib.Omega.{arith}
 use native.Mathlib.Numerals.{add-one}
@@ -12,7 +12,7 @@ use Rattle.std.specs.declared.result.Result.the-variants.{Ok, Err}
 use Rattle.record.specs.declared.Record.{Record}
 use Rattle.sink.specs.declared.fault.SinkFault.{SinkFault}
 use Rattle.sink.specs.Meaning.{Meaning}
-use Rattle.sink.specs.Calls.{Outcome, cleared, begin-step, end-step}
+use Rattle.sink.specs.Calls.{cleared, begin-step, end-step}
 use Rattle.sink.proofs.Outcomes.{Is}
 use Rattle.feed.specs.declared.FeedFault.{FeedFault}
 use Rattle.feed.specs.declared.Stage.{Stage}

@@ -1,15 +1,13 @@
 -- What the script of a feeding shows. Assumes nothing.
 use mathlib.Core.Path.{_≡_, refl, sym, ap, _∙_}
 use mathlib.Core.List.{List, _++_, map, append-assoc}
-use Prim.Native.Nat.{ℕ}
 use lib.ListN.{length, replicate}
 use Rattle.std.proofs.shelf.Lists.{length-map}
-use Rattle.picture.specs.Script.{Event, rewrite}
+use Rattle.picture.specs.Script.{rewrite}
 use Rattle.picture.specs.Picture.{picture}
 use Rattle.picture.specs.Outline.{outline}
 use Rattle.picture.specs.Feeding.{fed}
 use Rattle.picture.proofs.Feeding.{events-of-fed, feeding-keeps-balance, feeding-keeps-the-picture, feeding-keeps-the-outline}
-use Rattle.record.specs.declared.Group.{Group}
 use Rattle.record.specs.declared.Mark.{Mark}
 use Rattle.record.specs.declared.Record.{Record}
 use Rattle.record.specs.declared.Record.the-variants as variants

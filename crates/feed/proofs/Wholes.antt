@@ -10,14 +10,14 @@ use Rattle.record.specs.declared.Record.{Record}
 use Rattle.record.specs.declared.Record.the-variants as variants
 use Rattle.sink.specs.declared.fault.SinkFault.{SinkFault}
 use Rattle.sink.specs.Meaning.{Meaning, entered}
-use Rattle.sink.specs.Base.{base-opened, base-closed}
+use Rattle.sink.specs.Base.{base-closed}
 use Rattle.sink.specs.Calls.{open-checks, mark-checks, close-checks, end-checks, with-script, begin-step, end-step}
 use Rattle.sink.proofs.Outcomes.{checked-ok}
 use Rattle.sink.proofs.Begins.{begin-ok}
 use Rattle.feed.specs.declared.FeedFault.{FeedFault}
 use Rattle.feed.specs.declared.Stage.{Stage}
 use Rattle.feed.specs.declared.Stage.the-variants as stages
-use Rattle.feed.specs.Feeding.{Feeding, at-stage, record-step, go-on, after, fed-from, fed}
+use Rattle.feed.specs.Feeding.{Feeding, at-stage, record-step, go-on, fed-from, fed}
 use Rattle.feed.specs.Whole.{whole-script}
 
 never : {A : Type 0} (u : Unit {0}) (f : FeedFault) → _≡_ {A = Result (Unit {0}) FeedFault} (Err f) (Ok u) → A

@@ -2,7 +2,7 @@
 use mathlib.Core.Path.{_≡_, refl, subst, _∙_}
 use mathlib.Core.Logic.{⊎-elim}
 use mathlib.Core.List.{List, [], _∷_, _++_, append-assoc}
-use mathlib.Core.Bool.{Bool, true, false}
+use mathlib.Core.Bool.{false}
 use Prim.Native.Nat.{ℕ, zero, suc, _+_, _≤_, _<_}
 use native.Mathlib.Omega.{arith}
 use lib.IntN.{ℤ, pos, negsuc}
@@ -16,7 +16,7 @@ use Rattle.record.specs.declared.Group.{Group}
 use Rattle.record.specs.declared.Mark.{Mark}
 use Rattle.record.specs.declared.Record.{Record}
 use Rattle.record.specs.declared.Record.the-variants as variants
-use Rattle.sink.specs.Script.{opens, closes, places, level}
+use Rattle.sink.specs.Script.{places, level}
 use Rattle.sink.specs.Meaning.{Limit, most-open, exceeds}
 use Rattle.sink.specs.Bounds.{Shallow}
 use Rattle.sink.proofs.Counting.{opens-append, closes-append, places-append, level-close}

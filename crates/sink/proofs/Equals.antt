@@ -2,12 +2,12 @@
 use mathlib.Core.Path.{_≡_, refl, sym, ap, _∙_}
 use mathlib.Core.Logic.{⊎-elim}
 use mathlib.Core.Bool.{Bool, true, false, _&&_, _||_, Bool·beq}
-use Prim.Native.Nat.{ℕ, zero, suc, _+_, _*_, _%_, _^_, _<_, _≤_}
+use Prim.Native.Nat.{ℕ, zero, suc, _*_, _%_, _^_, _<_}
 use native.Mathlib.Omega.{arith}
 use native.Mathlib.Nat.{pow-zero, pow-suc, mul-one, one-mul, mul-assoc, zero-mul, mul-pos}
 use lib.IntN.{ℤ, pos, negsuc}
-use lib.Dec.{eqb, T}
-use lib.Ieee.{Float, nan, inf, fin, binary32, fits, eq, up, down, level}
+use lib.Dec.{eqb}
+use lib.Ieee.{Float, nan, inf, fin, binary32, fits, eq, up, down}
 use lib.Ieee.Fits.{up-pos, down-pos}
 use Rattle.std.proofs.shelf.Tests.{and-parts, eqb-true, or-cases}
 use Rattle.record.specs.Zero.{zeroed}

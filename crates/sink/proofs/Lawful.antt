@@ -2,7 +2,7 @@
 use mathlib.Core.Path.{_≡_, refl, sym, ap, _∙_}
 use mathlib.Core.Logic.{_⊎_, inl, inr, ⊎-elim}
 use mathlib.Core.List.{List, [], _∷_, _++_}
-use mathlib.Core.Bool.{Bool, true, false, not, _&&_}
+use mathlib.Core.Bool.{Bool, true, false}
 use Prim.Native.Nat.{ℕ, _+_, _≤_}
 use native.Mathlib.Omega.{arith}
 use lib.Dec.{leb, eqb}
@@ -11,23 +11,21 @@ use Rattle.std.proofs.shelf.Tests.{and-parts, eqb-true, not-false}
 use Rattle.std.proofs.shelf.Ways.{tells}
 use Rattle.std.specs.declared.option.Option.{Option}
 use Rattle.std.specs.declared.option.Option.the-variants.{Some, None}
-use Rattle.std.specs.declared.result.Result.{Result}
 use Rattle.std.specs.declared.result.Result.the-variants.{Ok, Err}
 use Rattle.geom.specs.declared.matrix.Matrix.{Matrix}
 use Rattle.geom.specs.declared.rect.Rect.{Rect}
-use Rattle.geom.specs.declared.rect.Ruler.{Ruler}
 use Rattle.record.specs.declared.Group.{Group}
 use Rattle.record.specs.declared.Mark.{Mark}
 use Rattle.record.specs.declared.Record.the-variants as variants
 use Rattle.record.specs.Good.{good-group, good-mark}
-use Rattle.record.specs.Zero.{zeroed, zeroed-matrix, zeroed-rect, zeroed-clip, zeroed-group, zeroed-ruler, zeroed-mark}
+use Rattle.record.specs.Zero.{zeroed-matrix, zeroed-rect, zeroed-clip, zeroed-group, zeroed-ruler, zeroed-mark}
 use Rattle.sink.specs.declared.fault.SinkFault.{SinkFault}
-use Rattle.sink.specs.Script.{opens, closes, places, level}
+use Rattle.sink.specs.Script.{opens, closes, level}
 use Rattle.sink.specs.Zeroed.{group-good, mark-good}
 use Rattle.sink.specs.Equal.{equal, equal-matrix, equal-clip, equal-group, equal-ruler, equal-mark}
-use Rattle.sink.specs.Meaning.{Meaning, exceeds, rewritten}
-use Rattle.sink.specs.Calls.{Tried, settle, cleared, with-script, open-checks, mark-checks, close-checks, end-checks, checked, begin-step, open-step, mark-step, close-step, end-step}
-use Rattle.sink.specs.Laws.{Call, step, left, run, Bounded, Calls-keep-limit-base-and-rewriting, Refused-calls-change-nothing, Equal-groups-do-the-same, Equal-marks-do-the-same, Runs-stay-bounded}
+use Rattle.sink.specs.Meaning.{Meaning, rewritten}
+use Rattle.sink.specs.Calls.{Tried, settle, cleared, with-script, open-checks, mark-checks, close-checks, end-checks, begin-step, open-step, mark-step, close-step, end-step}
+use Rattle.sink.specs.Laws.{Call, step, run, Bounded, Calls-keep-limit-base-and-rewriting, Refused-calls-change-nothing, Equal-groups-do-the-same, Equal-marks-do-the-same, Runs-stay-bounded}
 use Rattle.sink.specs.Laws.Call.{clearing, beginning, opening, marking, closing, ending}
 use Rattle.sink.proofs.Outcomes.{ok-not-err, check-passed, checked-ok}
 use Rattle.sink.proofs.Counting.{opens-append, closes-append}

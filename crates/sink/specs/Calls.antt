@@ -38,7 +38,7 @@ abbrev pub then : Tried → (List Record → Tried) → Tried
 then (Ok s) next = next s
 then (Err f) next = Err f
 
--- one more group may be open, and its two places are within the limit
+-- an open fails where the most groups are open already, or where its two places pass the limit
 abbrev pub room-checks : Limit → List Record → Checks
 room-checks limit s = (leb most-open (level s), TooDeep) ∷ (exceeds (places s + 2) limit, NoPlaces) ∷ []
 
@@ -48,11 +48,11 @@ open-checks m g = (not (m .turn), OutOfTurn) ∷ (not (good-group g), NotGood) �
 abbrev pub mark-checks : Meaning → Mark → Checks
 mark-checks m k = (not (m .turn), OutOfTurn) ∷ (not (good-mark k), NotGood) ∷ (exceeds (places (m .script) + 1) (m .limit), NoPlaces) ∷ []
 
--- a group beyond the base is open
+-- a close fails where no group beyond the base is open
 abbrev pub close-checks : Meaning → Checks
 close-checks m = (not (m .turn), OutOfTurn) ∷ (leb (level (m .script)) (length (m .base .groups)), OutOfTurn) ∷ []
 
--- no group beyond the base is open
+-- an end fails where one is
 abbrev pub end-checks : Meaning → Checks
 end-checks m = (not (m .turn), OutOfTurn) ∷ (not (eqb (level (m .script)) (length (m .base .groups))), OutOfTurn) ∷ []
 

@@ -22,7 +22,7 @@ most-places = 65535
 abbrev pub most-open : ℕ
 most-open = 112
 
--- How many places a script may use. It may be -1: then no script fits, the empty one neither.
+-- How many places a script may use. It may be -1: then no script fits, not even the empty one.
 pub record Limit : Type 0 where
   pub number : ℤ
   pub bounded : leZ number (pos most-places) ≡ true

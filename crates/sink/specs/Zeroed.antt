@@ -1,11 +1,11 @@
 -- What is good stays good where -0 counts as 0, and nothing is left to change after the first time.
 use mathlib.Core.Path.{_≡_, refl}
-use mathlib.Core.Bool.{Bool, true, false, _&&_, _||_}
+use mathlib.Core.Bool.{true, false}
 use native.Mathlib.Nat.{zero-mul, zero-add}
-use Prim.Native.Nat.{ℕ, zero, suc}
+use Prim.Native.Nat.{zero, suc}
 use lib.Count.{trailingZeros}
 use lib.IntN.{pos}
-use lib.Ieee.{Float, nan, inf, fin, binary32, round, odd, units, size, span, climb, lt, le, eq}
+use lib.Ieee.{Float, nan, inf, fin, round, odd, units, size, span, climb, lt, le, eq}
 use Rattle.std.specs.Floats.{finite}
 use Rattle.std.specs.declared.option.Option.{Option}
 use Rattle.std.specs.declared.option.Option.the-variants.{Some, None}
@@ -14,7 +14,6 @@ use Rattle.geom.specs.Matrix.{finite-matrix}
 use Rattle.geom.specs.Size.{finite-rect, valid-rect, finite-ruler}
 use Rattle.geom.specs.declared.matrix.Matrix.{Matrix}
 use Rattle.geom.specs.declared.rect.Rect.{Rect}
-use Rattle.geom.specs.declared.rect.Ruler.{Ruler}
 use Rattle.record.specs.Good.{good-clip, good-opacity, good-group, good-mark}
 use Rattle.record.specs.Zero.{zeroed, zeroed-matrix, zeroed-rect, zeroed-clip, zeroed-group, zeroed-ruler, zeroed-mark}
 use Rattle.record.specs.declared.Group.{Group}

@@ -4,9 +4,9 @@ use mathlib.Core.List.{List, [], _∷_, _++_, map}
 use mathlib.Core.Bool.{Bool, true, false}
 use native.Mathlib.Omega.{arith}
 use native.Mathlib.Nat.{min-eq-left}
-use Prim.Native.Nat.{ℕ, zero, suc, min, _+_, _-_, _≤_, _<_}
+use Prim.Native.Nat.{ℕ, min, _+_, _-_, _≤_, _<_}
 use lib.ListN.{length, getD, length-append}
-use lib.Dec.{leb, ltb, eqb}
+use lib.Dec.{leb, eqb}
 use Rattle.std.specs.shelf.Maps.{nth}
 use Rattle.std.proofs.shelf.Maps.{nth-past, nth-getD}
 use Rattle.std.proofs.shelf.Lists.{append-nil, length-map, map-push, getD-map}
@@ -19,8 +19,8 @@ use Rattle.record.specs.declared.Mark.{Mark}
 use Rattle.record.specs.declared.Record.{Record}
 use Rattle.record.specs.declared.Record.the-variants as variants
 use Rattle.record.specs.Good.{good-group, good-mark}
-use Rattle.record.specs.Zero.{zeroed-group, zeroed-mark, zeroed-record}
-use Rattle.sink.specs.declared.fault.SinkFault.the-variants.{OutOfTurn, NotGood, TooDeep, NoPlaces}
+use Rattle.record.specs.Zero.{zeroed-record}
+use Rattle.sink.specs.declared.fault.SinkFault.the-variants.{OutOfTurn, TooDeep, NoPlaces}
 use Rattle.sink.specs.Script.{opens, closes, places, level}
 use Rattle.sink.specs.Zeroed.{group-twice}
 use Rattle.sink.specs.Meaning.{most-places, exceeds}
