@@ -15,7 +15,8 @@ use Rattle.std.proofs.shelf.Lists.{length-push, take-append-le}
 use Rattle.std.proofs.shelf.Tests.{cases-lt, cases-order, cond-true, cond-false, cond-both, cases-bool}
 use Rattle.record.specs.declared.Record.{Record}
 use Rattle.sink.specs.Script.{level}
-use Rattle.group_table.specs.Links.{is-open, is-child, level-at, around, child-after, last-child, first-child-of, next-sibling-of}
+use Rattle.group_table.specs.Links.{is-open, is-child, level-at, around, child-after, first-child-of, next-sibling-of}
+use Rattle.group_table.specs.Invariant.{last-child}
 use Rattle.group_table.proofs.Scans.{Last, last-map, First}
 use Rattle.group_table.proofs.Levels.{Leads, around-is, around-by, around-before}
 use Rattle.group_table.proofs.Nesting.{Child-of, last-child-is, child-after-is, child-after-by}

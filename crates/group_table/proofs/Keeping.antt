@@ -22,8 +22,8 @@ use Rattle.group_table.specs.declared.entry.Entry.{Entry}
 use Rattle.group_table.specs.declared.entry.Item.{Item}
 use Rattle.group_table.specs.declared.entry.Item.the-variants.{Closed}
 use Rattle.group_table.specs.Entries.{at, blank, record-of, script-of, sound, Within, new-entry, with-first, with-next, tied}
-use Rattle.group_table.specs.Links.{same, is-child, around, last-child, last-below, first-child-of, next-sibling-of}
-use Rattle.group_table.specs.Invariant.{Kept, Ends, Links-of, Linked}
+use Rattle.group_table.specs.Links.{same, is-child, around, last-below, first-child-of, next-sibling-of}
+use Rattle.group_table.specs.Invariant.{last-child, Kept, Ends, Links-of, Linked}
 use Rattle.group_table.proofs.Scans.{same-refl, same-true, none-some}
 use Rattle.group_table.proofs.Levels.{around-before}
 use Rattle.group_table.proofs.Nesting.{last-child-before}

@@ -16,7 +16,8 @@ use Rattle.record.specs.declared.Mark.{Mark}
 use Rattle.record.specs.declared.Record.{Record}
 use Rattle.record.specs.declared.Record.the-variants as variants
 use Rattle.sink.specs.Script.{opens, closes, level}
-use Rattle.group_table.specs.Links.{is-open, is-child, level-at, around, same, last-below, first-from, child-after, last-child}
+use Rattle.group_table.specs.Links.{is-open, is-child, level-at, around, same, last-below, first-from, child-after}
+use Rattle.group_table.specs.Invariant.{last-child}
 use Rattle.group_table.proofs.Scans.{same-refl, same-true, none-some, Last, last-map, last-up, last-is, last-by, First, first-is, first-by}
 use Rattle.group_table.proofs.Levels.{level-is, Leads, around-is, around-by, around-before, around-open, around-level, still-open, none-open}
 

@@ -20,7 +20,8 @@ use Rattle.group_table.specs.declared.bits.GroupBits.{GroupBits}
 use Rattle.group_table.specs.declared.bits.MarkBits.{MarkBits}
 use Rattle.group_table.specs.Bits.{sound-group, sound-mark}
 use Rattle.group_table.specs.Entries.{at, record-of, Within, new-entry, tied}
-use Rattle.group_table.specs.Links.{around, last-child}
+use Rattle.group_table.specs.Links.{around}
+use Rattle.group_table.specs.Invariant.{last-child}
 use Rattle.group_table.proofs.Scans.{same-true}
 use Rattle.group_table.proofs.Levels.{around-before, around-level, none-open}
 use Rattle.group_table.proofs.Nesting.{last-child-before, around-opened, around-marked, around-closed, last-child-opened, last-child-marked, last-child-closed}

@@ -48,7 +48,7 @@ is-child (Some variants.Close) = false
 abbrev pub level-at : List Record → ℕ → ℕ
 level-at s n = level (take n s)
 
--- The open of the innermost group that is open before record n: the last one before n that led to the level of n.
+-- The open of the innermost group that is open before record n: the last open before n that stands one level below n.
 -- So a close lies in the group that it closes.
 unfoldable pub around : List Record → ℕ → Option ℕ
 around s n = last-below (λ m. is-open (nth s m) && eqb (level-at s m + 1) (level-at s n)) n
@@ -80,7 +80,8 @@ Innermost = (s : List Record) (n : ℕ)
     → ((m : ℕ) → around s n ≡ Some m → Encloses s m n × ((j : ℕ) → Encloses s j n → j ≤ m))
     × (around s n ≡ None → (j : ℕ) → Encloses s j n → ⊥)
 
--- A group that holds a mark, a group with nothing in it, and a mark.
+-- ---- a group that holds a mark, a group with nothing in it, and a mark
+
 abbrev pub Example : Type 0
 Example = (g h : Group) (m p : Mark)
     → let s = variants.Open g ∷ variants.Mark m ∷ variants.Open h ∷ variants.Close ∷ variants.Mark p ∷ variants.Close ∷ [] in
@@ -88,9 +89,3 @@ Example = (g h : Group) (m p : Mark)
     (map (parent-of s) all ≡ None ∷ Some 0 ∷ Some 0 ∷ Some 2 ∷ Some 0 ∷ Some 0 ∷ None ∷ [])
     × (map (first-child-of s) all ≡ Some 1 ∷ None ∷ None ∷ None ∷ None ∷ None ∷ None ∷ [])
     × (map (next-sibling-of s) all ≡ None ∷ Some 2 ∷ Some 4 ∷ None ∷ None ∷ None ∷ None ∷ [])
-
--- ---- the last child so far
-
--- the last child before record n of the group that is open there
-unfoldable pub last-child : List Record → ℕ → Option ℕ
-last-child s n = last-below (λ m. is-child (nth s m) && same (around s m) (around s n)) n

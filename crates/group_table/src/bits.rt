@@ -114,7 +114,7 @@ fn pack_ruler(ruler: Ruler) -> RulerBits
 
 impl GroupBits {
     /// The bits of a good group.
-    pub fn pack(group: Group) -> GroupBits
+    pub(crate) fn pack(group: Group) -> GroupBits
         requires { ⌜ good-group group ≡ true ⌝ }
         ensures value { λ r. ⌜ group-of r ≡ group ⌝ }
         ensures sound { λ r. ⌜ sound-group r ≡ true ⌝ }
@@ -128,7 +128,7 @@ impl GroupBits {
     }
 
     /// The group of the bits.
-    pub fn unpack(self) -> Group
+    pub(crate) fn unpack(self) -> Group
         requires { ⌜ sound-group self ≡ true ⌝ }
         ensures { λ r. ⌜ r ≡ group-of self ⌝ }
     {
@@ -143,7 +143,7 @@ impl GroupBits {
 
 impl MarkBits {
     /// The bits of a good mark.
-    pub fn pack(mark: Mark) -> MarkBits
+    pub(crate) fn pack(mark: Mark) -> MarkBits
         requires { ⌜ good-mark mark ≡ true ⌝ }
         ensures value { λ r. ⌜ mark-of r ≡ mark ⌝ }
         ensures sound { λ r. ⌜ sound-mark r ≡ true ⌝ }
@@ -155,7 +155,7 @@ impl MarkBits {
     }
 
     /// The mark of the bits.
-    pub fn unpack(self) -> Mark
+    pub(crate) fn unpack(self) -> Mark
         requires { ⌜ sound-mark self ≡ true ⌝ }
         ensures { λ r. ⌜ r ≡ mark-of self ⌝ }
     {

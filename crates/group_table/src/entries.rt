@@ -22,7 +22,7 @@ pub struct Entries {
 
 impl Entries {
     /// Adds an entry that no other refers to yet, and answers its place.
-    pub fn add(&mut self, item: Item, parent: Option<Place>) -> Place
+    pub(crate) fn add(&mut self, item: Item, parent: Option<Place>) -> Place
         requires { ⌜ now self .count < min (length (vec-items (now self .memory))) most-places ⌝ }
         ensures place { λ r. ⌜ r ≡ now (self .entry) .count ⌝ }
         ensures count { λ r. ⌜ now (self .exit) .count ≡ now (self .entry) .count + 1 ⌝ }
@@ -40,7 +40,12 @@ impl Entries {
     }
 
     /// Adds a child of the group `parent`, or of none, whose last child so far is `last`, and answers its place.
-    pub fn add_child(&mut self, item: Item, parent: Option<Place>, last: Option<Place>) -> Place
+    pub(crate) fn add_child(
+        &mut self,
+        item: Item,
+        parent: Option<Place>,
+        last: Option<Place>,
+    ) -> Place
         requires room { ⌜ now self .count < min (length (vec-items (now self .memory))) most-places ⌝ }
         requires parent { ⌜ Within parent (length (vec-items (now self .memory))) ⌝ }
         requires last { ⌜ Within last (length (vec-items (now self .memory))) ⌝ }
@@ -65,7 +70,7 @@ impl Entries {
     }
 
     /// The parent of the entry at the place.
-    pub fn parent_at(&self, place: Place) -> Option<Place>
+    pub(crate) fn parent_at(&self, place: Place) -> Option<Place>
         requires { ⌜ place < length (vec-items (now self .memory)) ⌝ }
         ensures { λ r. ⌜ r ≡ at (vec-items (now (self .entry) .memory)) place .parent ⌝ }
     {

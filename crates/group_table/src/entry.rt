@@ -29,7 +29,7 @@ pub struct Entry {
 
 impl Item {
     /// The record that the item stands for.
-    pub fn record(self) -> Record
+    pub(crate) fn record(self) -> Record
         requires { ⌜ sound self ≡ true ⌝ }
         ensures { λ r. ⌜ r ≡ record-of self ⌝ }
     {

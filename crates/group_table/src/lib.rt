@@ -47,24 +47,26 @@ mod tests {
         }
     }
 
+    // A group with a mark, a group and a mark in it: six records on six places.
+    fn draw<S: Sink>(sink: &mut S) -> Result<(), SinkFault> {
+        sink.begin()?;
+        sink.open(group(7))?;
+        sink.mark(mark(1))?;
+        sink.open(group(5))?;
+        sink.close()?;
+        sink.mark(mark(2))?;
+        sink.close()?;
+        sink.end()
+    }
+
     #[test]
     fn links(rt: LibcRuntime) -> Result<(), Fail> {
-        let mut table = GroupTable::new(vec![in rt.alloc(); Entry::blank(); 9]?);
-        check(table.begin().is_ok())?;
-        check(table.open(group(7)).is_ok())?;
-        check(table.mark(mark(1)).is_ok())?;
-        check(table.open(group(0)).is_ok())?;
-        check(table.close().is_ok())?;
-        check(table.mark(mark(2)).is_ok())?;
-        check(matches!(table.end(), Err(SinkFault::OutOfTurn)))?;
-        check(table.close().is_ok())?;
-        check(table.end().is_ok())?;
-        check_eq(table.count(), 6)?;
+        let mut table = GroupTable::new(vec![in rt.alloc(); Entry::blank(); 6]?);
+        check(draw(&mut table).is_ok())?;
         check_eq(table.parent(3), Some(2))?;
         check_eq(table.first_child(0), Some(1))?;
         check_eq(table.next_sibling(1), Some(2))?;
         check_eq(table.next_sibling(2), Some(4))?;
-        check_eq(table.next_sibling(4), None)?;
         match table.record(4) {
             Some(Record::Mark(mark)) => check(mark.leaf == 2 && mark.ruler.w == 100.0),
             _ => Err(Fail::new("no mark")),
@@ -73,30 +75,20 @@ mod tests {
 
     #[test]
     fn full(rt: LibcRuntime) -> Result<(), Fail> {
-        let mut table = GroupTable::new(vec![in rt.alloc(); Entry::blank(); 3]?);
-        check(matches!(table.open(group(1)), Err(SinkFault::OutOfTurn)))?;
-        check(table.begin().is_ok())?;
-        check(table.open(group(1)).is_ok())?;
-        check(matches!(table.open(group(2)), Err(SinkFault::NoPlaces)))?;
-        check(table.mark(mark(1)).is_ok())?;
-        check(matches!(table.mark(mark(2)), Err(SinkFault::NoPlaces)))?;
-        check_eq(table.depth(), Some(1))?;
-        check(table.close().is_ok())?;
-        check_eq(table.depth(), Some(0))
+        let mut table = GroupTable::new(vec![in rt.alloc(); Entry::blank(); 5]?);
+        check(matches!(draw(&mut table), Err(SinkFault::NoPlaces)))?;
+        check_eq(table.count(), 4)?;
+        check_eq(table.depth(), Some(1))
     }
 
     #[test]
     fn find(rt: LibcRuntime) -> Result<(), Fail> {
         let mut table = GroupTable::new(vec![in rt.alloc(); Entry::blank(); 8]?);
-        check(table.begin().is_ok())?;
-        check(table.mark(mark(5)).is_ok())?;
-        check(table.open(group(5)).is_ok())?;
-        check(table.open(group(5)).is_ok())?;
-        check_eq(table.find_group(5), Some(1))?;
+        check(draw(&mut table).is_ok())?;
+        check_eq(table.find_group(5), Some(2))?;
         check_eq(table.find_group(0), None)?;
         let mut layer = Strip::new(table);
-        check(layer.begin().is_ok())?;
-        check(layer.open(group(5)).is_ok())?;
+        check(draw(&mut layer).is_ok())?;
         check_eq(layer.into_below().find_group(5), None)
     }
 }

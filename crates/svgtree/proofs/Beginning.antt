@@ -3,7 +3,7 @@ use mathlib.Core.Path.{_≡_, refl, sym, _∙_, ap, subst}
 use mathlib.Core.Logic.{inl}
 use mathlib.Core.List.{List, [], _∷_, map}
 use mathlib.Core.Bool.{Bool, not}
-use Prim.Native.Nat.{ℕ, _<_}
+use Prim.Native.Nat.{ℕ}
 use native.Mathlib.Omega.{arith}
 use lib.ListN.{length, set}
 use lib.Dec.{eqb}
@@ -17,7 +17,7 @@ use Rattle.element.specs.declared.value.Kind.the-variants.{Svg}
 use Rattle.list.specs.Bounded.{used, Appended}
 use Rattle.svgtree.specs.declared.node.Node.{Node}
 use Rattle.svgtree.specs.declared.document.Options.{Options}
-use Rattle.svgtree.specs.Model.{Item, beginning}
+use Rattle.svgtree.specs.Model.{beginning}
 use Rattle.svgtree.specs.Steps.{good-options, new-checks}
 use Rattle.svgtree.specs.Memory.{item-of, node-at, fresh}
 use Rattle.svgtree.specs.Links.{Linked}

@@ -1,10 +1,10 @@
 -- Edits of an attribute.
 use mathlib.Core.Path.{_≡_, refl, sym, _∙_, ap, fun-ext, subst}
-use mathlib.Core.Bool.{Bool, true, false, cond, not, _&&_}
+use mathlib.Core.Bool.{Bool, true, false, not, _&&_}
 use mathlib.Core.List.{List, [], _∷_, map}
-use Prim.Native.Nat.{ℕ, zero, suc, _≤_, _<_, min}
+use Prim.Native.Nat.{ℕ, zero, suc, _≤_, _<_}
 use native.Mathlib.Omega.{arith}
-use lib.ListN.{length, getD, take, set}
+use lib.ListN.{length, set}
 use lib.Dec.{ltb, eqb}
 use Rattle.std.specs.declared.option.Option.{Option}
 use Rattle.std.specs.declared.option.Option.the-variants.{Some, None}
@@ -24,7 +24,7 @@ use Rattle.svgtree.specs.declared.node.Node.{Node}
 use Rattle.svgtree.specs.declared.document.Document.{Document}
 use Rattle.svgtree.specs.Model.{Item, Model, count, item, with-value, with-attribute}
 use Rattle.svgtree.specs.Steps.{outcome, set-checks, unset-checks, set-step, unset-step}
-use Rattle.svgtree.specs.Memory.{item-of, nodes-of, model-of, no-node, node-at, value-changed, attribute-changed}
+use Rattle.svgtree.specs.Memory.{item-of, nodes-of, model-of, node-at, value-changed, attribute-changed}
 use Rattle.svgtree.specs.Allowed.{row, takes-attribute}
 use Rattle.svgtree.specs.Links.{Ties, Linked}
 use Rattle.svgtree.specs.Edits.{Edited}

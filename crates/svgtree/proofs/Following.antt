@@ -1,15 +1,15 @@
 -- Links that agree with the parents give the children, and levels are depths.
 use mathlib.Core.Path.{_≡_, refl, sym, _∙_, ap, fun-ext, subst}
-use mathlib.Core.Logic.{_⊎_, inl, inr}
+use mathlib.Core.Logic.{inl, inr}
 use mathlib.Core.List.{List, [], _∷_}
-use mathlib.Core.Bool.{Bool, true, false, cond, not, _&&_}
+use mathlib.Core.Bool.{Bool, true, false, cond, not}
 use Prim.Native.Nat.{ℕ, zero, suc, _+_, _-_, _≤_, _<_}
 use native.Mathlib.Omega.{arith}
 use lib.ListN.{length}
 use lib.Dec.{ltb, eqb}
 use Rattle.std.specs.Iters.{counting}
 use Rattle.std.specs.shelf.Lists.{kept-by}
-use Rattle.std.proofs.shelf.Tests.{true≢false, cases-eq, cases-lt, cond-true, cond-false, and-from, and-left, and-right, eq-eqb, ne-eqb, lt-ltb, le-ltb}
+use Rattle.std.proofs.shelf.Tests.{true≢false, cases-eq, cases-lt, cond-true, cond-false, and-from, and-left, eq-eqb, ne-eqb, lt-ltb, le-ltb}
 use Rattle.std.specs.shelf.Maps.{nth}
 use Rattle.std.proofs.shelf.Lists.{getD-past}
 use Rattle.std.specs.declared.option.Option.{Option}

@@ -2,14 +2,14 @@
 use mathlib.Core.Path.{_≡_, refl, sym, _∙_, ap, subst}
 use mathlib.Core.Logic.{_⊎_, inl, inr, _≢_}
 use mathlib.Core.List.{List, [], _∷_, _++_, map}
-use mathlib.Core.Bool.{Bool, true, false, cond, not}
-use Prim.Native.Nat.{ℕ, zero, suc, _+_, _≤_, _<_, min}
+use mathlib.Core.Bool.{Bool, not}
+use Prim.Native.Nat.{ℕ, _+_, _≤_, _<_, min}
 use native.Mathlib.Omega.{arith}
-use lib.ListN.{length, getD, take, set}
+use lib.ListN.{length, take, set}
 use lib.Dec.{ltb, leb, eqb}
 use Rattle.std.specs.shelf.Maps.{nth}
 use Rattle.std.proofs.shelf.Tests.{cases-lt, cond-true, cond-false, cond-both, eq-eqb, ne-eqb, lt-ltb, le-ltb, ltb-true, leb-false, not-false}
-use Rattle.std.proofs.shelf.Lists.{length-set, length-take, length-take-le, getD-take, getD-set-same, getD-set-other, map-set, set-getD, take-map, map-push, take-more-set}
+use Rattle.std.proofs.shelf.Lists.{length-set, length-take-le, getD-take, getD-set-same, getD-set-other, map-set, set-getD, take-map, map-push, take-more-set}
 use Rattle.std.specs.declared.option.Option.{Option}
 use Rattle.std.specs.declared.option.Option.the-variants.{Some, None}
 use Rattle.std.specs.declared.result.Result.the-variants.{Ok, Err}
@@ -24,9 +24,9 @@ use Rattle.svgtree.specs.declared.document.Document.{Document}
 use Rattle.svgtree.specs.Limits.{max-nodes, max-levels}
 use Rattle.svgtree.specs.Allowed.{takes-child}
 use Rattle.svgtree.specs.Model.{Item, Model, count, item, children, level, with-child}
-use Rattle.svgtree.specs.Steps.{Outcome, outcome, nonempty, add-checks, add-step}
+use Rattle.svgtree.specs.Steps.{outcome, nonempty, add-checks}
 use Rattle.svgtree.specs.Memory.{item-of, nodes-of, model-of, no-node, node-at, fresh, link-within, with-first-child, with-last-child, with-next-sibling, behind-last, tied, last-link, place-refusal, placed}
-use Rattle.svgtree.specs.Links.{Next, Last, Ties, Linked}
+use Rattle.svgtree.specs.Links.{Last, Ties, Linked}
 use Rattle.svgtree.specs.Edits.{Added}
 use Rattle.svgtree.proofs.Reading.{passes, nth-none, found-inside, found-there, check-fails, check-passes, not-added, model-count, model-item, nodes-count, node-used}
 use Rattle.svgtree.proofs.Editing.{untouched}

@@ -1,10 +1,10 @@
 -- Laws of the document that a memory holds.
-use mathlib.Core.Path.{_≡_, refl, sym, _∙_, ap, fun-ext, subst}
-use mathlib.Core.Bool.{Bool, true, false, cond, not}
+use mathlib.Core.Path.{_≡_, refl, sym, _∙_, ap}
+use mathlib.Core.Bool.{Bool, true, false, not}
 use mathlib.Core.List.{List, [], _∷_, map}
 use Prim.Native.Nat.{ℕ, zero, suc, _≤_, _<_, min}
 use native.Mathlib.Omega.{arith}
-use lib.ListN.{length, getD, take, set}
+use lib.ListN.{length, getD}
 use lib.Dec.{ltb}
 use Rattle.std.specs.shelf.Maps.{nth}
 use Rattle.std.proofs.shelf.Lists.{length-map, length-take, getD-take}
@@ -18,7 +18,7 @@ use Rattle.refusal.specs.declared.Refusal.{Refusal}
 use Rattle.refusal.specs.declared.Refusal.the-variants.{UnknownNode}
 use Rattle.svgtree.specs.declared.node.Node.{Node}
 use Rattle.svgtree.specs.declared.document.Document.{Document}
-use Rattle.svgtree.specs.Model.{Item, Model, no-item, count, item}
+use Rattle.svgtree.specs.Model.{count, item}
 use Rattle.svgtree.specs.Memory.{item-of, nodes-of, model-of, no-node, node-at}
 
 -- A READ OF A LIST

@@ -1,10 +1,10 @@
 -- Runs of calls.
-use mathlib.Core.Path.{_≡_, refl, sym, _∙_, ap, subst}
+use mathlib.Core.Path.{_≡_, refl, sym, _∙_, ap}
 use mathlib.Core.List.{List, [], _∷_, _++_}
 use Prim.Native.Nat.{ℕ, _+_, _≤_, _<_}
 use native.Mathlib.Omega.{arith}
 use lib.ListN.{length, getD, set, take, drop}
-use Rattle.std.proofs.shelf.Lists.{append-assoc, take-all, drop-all, take-more-set, drop-more, drop-set-lt, take-append-drop, length-take, length-set, getD-set-other}
+use Rattle.std.proofs.shelf.Lists.{append-assoc, take-all, drop-all, take-more-set, drop-more, drop-set-lt, take-append-drop, length-set, getD-set-other}
 use mathlib.Core.Bool.{not}
 use lib.Dec.{eqb}
 use Rattle.std.proofs.shelf.Tests.{eqb-false}
@@ -17,7 +17,6 @@ use Rattle.refusal.specs.declared.Refusal.{Refusal}
 use Rattle.refusal.specs.declared.Refusal.the-variants.{DocumentFull, BadValue}
 use Rattle.element.specs.declared.value.Kind.the-variants.{Svg}
 use Rattle.svgtree.specs.declared.calls.Answer.{Answer}
-use Rattle.svgtree.specs.declared.calls.Answer.the-variants as answer
 use Rattle.svgtree.specs.declared.calls.Call.{Call}
 use Rattle.svgtree.specs.declared.calls.Call.the-variants as call
 use Rattle.svgtree.specs.declared.node.Node.{Node}
@@ -29,7 +28,7 @@ use Rattle.svgtree.specs.Memory.{nodes-of, model-of, no-node, node-at, fresh}
 use Rattle.svgtree.specs.Links.{Linked}
 use Rattle.svgtree.specs.Edits.{Begun}
 use Rattle.svgtree.proofs.Reading.{passes, nodes-count}
-use Rattle.svgtree.proofs.Resting.{rest-one, not-refused}
+use Rattle.svgtree.proofs.Resting.{Rests, rest-one, not-refused}
 use Rattle.svgtree.proofs.Sounding.{sound-after}
 use Rattle.svgtree.specs.Calls.{Turn, turn, edited, told, after, after-new, told-after-new}
 use Rattle.svgtree.specs.Runs.{written, Rest-kept, Called, All-called, Ran}
@@ -42,9 +41,10 @@ pub record Standing (d₀ : Document) (ns₀ : List Node) (calls : List Call) (p
   pub answers : take i places ++ written (drop i places) (told (length ns₀) (model-of d ns) (drop i calls)) ≡ written places₀ (told (length ns₀) (model-of d₀ ns₀) calls)
   pub rest : Rest-kept ns₀ d ns
   pub grown : length (nodes-of d₀ ns₀) ≤ length (nodes-of d ns)
+  pub counted : d₀ .count ≤ length ns₀ → d .count ≤ length ns
 
 pub stands-first : (d : Document) (ns : List Node) (calls : List Call) (places : List Answer) → Linked (nodes-of d ns) → Standing d ns calls places 0 d ns places
-stands-first d ns calls places linked = record { linked = linked; lent = refl; ahead = refl; answers = refl; rest = λ k h. refl; grown = omega arith }
+stands-first d ns calls places linked = record { linked = linked; lent = refl; ahead = refl; answers = refl; rest = λ k h. refl; grown = omega arith; counted = λ h. h }
 
 written-none : (places : List Answer) → written places [] ≡ places
 written-none [] = refl
@@ -95,8 +95,8 @@ module _ (d₀ : Document) (ns₀ : List Node) (calls : List Call) (places₀ : 
       ((told : List Answer) → take (i + 1) places′ ++ written (drop (i + 1) places′) told ≡ take i places ++ written (drop i places) (t ∷ told)) →
       Standing d₀ ns₀ calls places₀ (i + 1) d′ ns′ places′
   stands-on places′ long wrote =
-      let one : Rest-kept ns d′ ns′ × (length (nodes-of d ns) ≤ length (nodes-of d′ ns′)) = rest-one d ns c t d′ ns′ (called .done) in
-      let more : length (nodes-of d ns) ≤ length (nodes-of d′ ns′) = one .1 in
+      let one : Rests d ns d′ ns′ = rest-one d ns c t d′ ns′ (called .done) in
+      let more : length (nodes-of d ns) ≤ length (nodes-of d′ ns′) = one .grown in
       record {
         linked = called .links (stands .linked);
         lent = long ∙ stands .lent;
@@ -105,8 +105,9 @@ module _ (d₀ : Document) (ns₀ : List Node) (calls : List Call) (places₀ : 
             wrote (told (length ns₀) (model-of d′ ns′) (drop (i + 1) calls))
             ∙ ap (λ (ts : List Answer). take i places ++ written (drop i places) ts) (sym told-on)
             ∙ stands .answers;
-        rest = λ k past. one .0 k past ∙ stands .rest k (omega arith);
+        rest = λ k past. one .rest k past ∙ stands .rest k (omega arith);
         grown = omega (arith, stands .grown);
+        counted = λ h. one .counted (stands .counted h);
       }
 
   pub stands-written : length ns′ ≡ length ns → i < length places → Standing d₀ ns₀ calls places₀ (i + 1) d′ ns′ (set places i t)
@@ -130,6 +131,7 @@ stands-last d₀ ns₀ calls places₀ i d ns places stands past =
       links = stands .linked;
       rest = stands .rest;
       grown = stands .grown;
+      counted = stands .counted;
     }
 
 -- WITH `new`
@@ -139,21 +141,22 @@ ran-refused options ns calls places e ns′ begun =
     record {
       document = ap (λ (r : Result Model Refusal). after-new (length ns) r calls) (begun .step);
       answers = sym (written-none places) ∙ ap (λ (r : Result Model Refusal). written places (told-after-new (length ns) r calls)) (begun .step);
+      counted = tt;
       links = tt;
       sound = tt;
       rest = tt;
       refused = λ refusal is. begun .memory;
     }
 
--- a document that was made has a node
-made-one : (options : Options) (ns : List Node) (d : Document) (ns′ : List Node) → Begun options ns (Ok d) ns′ → 0 < length (nodes-of d ns′)
+-- a document that was made has a node, and room for it
+made-one : (options : Options) (ns : List Node) (d : Document) (ns′ : List Node) → Begun options ns (Ok d) ns′ → (0 < length (nodes-of d ns′)) × (d .count ≤ length ns′)
 made-one options ns d ns′ begun =
     let accepted : first-of (new-checks (length ns) options) ≡ None = not-refused (first-of (new-checks (length ns) options)) (record { count = 1; options = options }) d (begun .answer) in
     let some : length ns ≡ 0 → ⊥ = eqb-false (length ns) 0 (passes (eqb (length ns) 0) DocumentFull ((not (good-options options), BadValue) ∷ []) accepted .0) in
     let same : Ok d ≡ unless None (record { count = 1; options = options }) = begun .answer ∙ ap (λ (r : Option Refusal). unless r (record { count = 1; options = options })) accepted in
     let one : d .count ≡ 1 = counted d (record { count = 1; options = options }) same in
     let long : length ns′ ≡ length ns = ap length (begun .memory) ∙ length-set ns 0 (fresh Svg 0 1) in
-    omega (arith, nodes-count d ns′)
+    (omega (arith, nodes-count d ns′), omega arith)
   where
     counted : (x y : Document) → _≡_ {A = Result Document Refusal} (Ok x) (Ok y) → x .count ≡ y .count
     counted x y is = let e : x ≡ y = cc in ap (λ (z : Document). z .count) e
@@ -162,7 +165,9 @@ pub ran-done : (options : Options) (ns : List Node) (calls : List Call) (places 
     Begun options ns (Ok d) ns₁ → All-called d ns₁ calls places d′ ns′ places′ → Ran options ns calls places (Ok d′) ns′ places′
 ran-done options ns calls places d ns₁ d′ ns′ places′ begun called =
     let long : length ns₁ ≡ length ns = ap length (begun .memory) ∙ length-set ns 0 (fresh Svg 0 1) in
-    let one : 0 < length (nodes-of d ns₁) = made-one options ns d ns₁ begun in
+    let made = made-one options ns d ns₁ begun in
+    let one : 0 < length (nodes-of d ns₁) = made .0 in
+    let within : d′ .count ≤ length ns′ = called .counted (made .1) in
     let more : length (nodes-of d ns₁) ≤ length (nodes-of d′ ns′) = called .grown in
     let document : Ok (model-of d′ ns′) ≡ after options (length ns) calls =
     ap Ok (called .document ∙ ap (λ (n : ℕ). edited n (model-of d ns₁) calls) long)
@@ -174,6 +179,7 @@ ran-done options ns calls places d ns₁ d′ ns′ places′ begun called =
           called .answers
           ∙ ap (λ (n : ℕ). written places (told n (model-of d ns₁) calls)) long
           ∙ ap (λ (r : Result Model Refusal). written places (told-after-new (length ns) r calls)) (begun .step);
+      counted = omega (arith, nodes-count d′ ns′);
       links = called .links;
       rest = λ k past.
           called .rest k past

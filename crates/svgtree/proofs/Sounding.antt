@@ -9,8 +9,8 @@ use lib.Dec.{eqb, ltb, leb}
 use lib.ListN.{length, getD, set}
 use Rattle.std.specs.Iters.{counting}
 use Rattle.std.specs.shelf.Lists.{kept-by}
-use Rattle.std.proofs.shelf.Lists.{append-nil, length-append, length-push, length-set, getD-append-left, getD-push, getD-set-same, getD-set-other, getD-past, set-past}
-use Rattle.std.proofs.shelf.Tests.{true≢false, cases-eq, cases-lt, cond-true, cond-false, eq-eqb, ne-eqb, lt-ltb, ltb-true, leb-false, not-true, not-false, and-parts}
+use Rattle.std.proofs.shelf.Lists.{append-nil, length-append, length-push, length-set, getD-append-left, getD-push, getD-set-same, getD-set-other, set-past}
+use Rattle.std.proofs.shelf.Tests.{true≢false, cases-eq, cases-lt, cond-true, cond-false, eq-eqb, ne-eqb, ltb-true, leb-false, not-true, not-false, and-parts}
 use Rattle.std.specs.declared.option.Option.{Option}
 use Rattle.std.specs.declared.option.Option.the-variants.{Some, None}
 use Rattle.std.specs.declared.result.Result.{Result}

@@ -1,11 +1,10 @@
 -- A document in memory: the nodes that are lent to it, and what they stand for.
 use Prim.Native.Nat.{ℕ, _+_}
-use mathlib.Core.Bool.{Bool, cond, not}
-use mathlib.Core.List.{List, [], _∷_, map}
+use mathlib.Core.Bool.{cond, not}
+use mathlib.Core.List.{List, [], map}
 use lib.Dec.{eqb, ltb}
 use lib.ListN.{length, getD, set}
 use Rattle.std.specs.declared.option.Option.{Option}
-use Rattle.std.specs.declared.option.Option.the-variants.{Some, None}
 use Rattle.refusal.specs.Order.{first-of}
 use Rattle.refusal.specs.declared.Refusal.{Refusal}
 use Rattle.element.specs.declared.value.Attribute.{Attribute}
@@ -15,9 +14,8 @@ use Rattle.element.specs.declared.value.Value.{Value}
 use Rattle.list.specs.Bounded.{used}
 use Rattle.svgtree.specs.declared.node.Node.{Node}
 use Rattle.svgtree.specs.declared.document.Document.{Document}
-use Rattle.svgtree.specs.declared.document.Options.{Options}
 use Rattle.svgtree.specs.Model.{Item, Model, bare, with-value}
-use Rattle.svgtree.specs.Steps.{add-checks, changed}
+use Rattle.svgtree.specs.Steps.{add-checks}
 
 -- what a node says, apart from its level and its links
 abbrev pub item-of : Node → Item

@@ -8,7 +8,7 @@ use Rattle.std.specs.Iters.{counting}
 use Rattle.std.specs.Joined.{joined}
 use Rattle.std.specs.shelf.Lists.{kept-by}
 use Rattle.std.specs.declared.option.Option.{Option}
-use Rattle.std.specs.declared.option.Option.the-variants.{Some, None}
+use Rattle.std.specs.declared.option.Option.the-variants.{None}
 use Rattle.element.specs.declared.element.Element.{Element}
 use Rattle.element.specs.declared.value.Attribute.{Attribute}
 use Rattle.element.specs.declared.value.Kind.{Kind}

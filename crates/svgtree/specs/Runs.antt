@@ -50,11 +50,15 @@ pub record All-called (d : Document) (ns : List Node) (calls : List Call) (place
   pub links : Linked (nodes-of d′ ns′)
   pub rest : Rest-kept ns d′ ns′
   pub grown : length (nodes-of d ns) ≤ length (nodes-of d′ ns′)
+  pub counted : d .count ≤ length ns → d′ .count ≤ length ns′
 
--- a run of `new` and the calls made r of these nodes and places for answers, and left ns′ and places′
+-- A run of `new` and the calls made r of these nodes and places for answers, and left ns′ and places′: the document is the one
+-- after the calls by the rules, and so are the answers, as many as there are places. Its memory is linked, so that its links and
+-- levels follow from it, and the nodes past those in use are as they were. Where `new` is refused, nothing is changed.
 pub record Ran (options : Options) (ns : List Node) (calls : List Call) (places : List Answer) (r : Result Document Refusal) (ns′ : List Node) (places′ : List Answer) : Type 0 where
   pub document : made-in ns′ r ≡ after options (length ns) calls
   pub answers : places′ ≡ written places (answers-after options (length ns) calls)
+  pub counted : If-made r (λ d. d .count ≡ length (nodes-of d ns′))
   pub links : If-made r (λ d. Linked (nodes-of d ns′))
   pub sound : If-made r (λ d. Sound (model-of d ns′))
   pub rest : If-made r (λ d. Rest-kept ns d ns′)

@@ -7,7 +7,6 @@ use lib.Ieee.{lt, le}
 use Rattle.std.specs.declared.option.Option.{Option}
 use Rattle.std.specs.declared.option.Option.the-variants.{Some, None}
 use Rattle.std.specs.declared.result.Result.{Result}
-use Rattle.std.specs.declared.result.Result.the-variants.{Ok, Err}
 use Rattle.geom.specs.F32.{whole}
 use Rattle.refusal.specs.Order.{first-of, unless}
 use Rattle.refusal.specs.declared.Refusal.{Refusal}

@@ -23,6 +23,12 @@ const MOST_PLACES: usize = 65_535;
 /// The most groups that are open at once.
 const MOST_OPEN: usize = 112;
 
+/// The places that an open uses: its own and its close's.
+const OPEN_PLACES: usize = 2;
+
+/// The places that a mark uses.
+const MARK_PLACES: usize = 1;
+
 impl GroupTable {
     /// An empty table, whatever its memory held. It has as many places as entries, up to 65,535.
     pub fn new(memory: Vec<Entry>) -> GroupTable
@@ -88,7 +94,7 @@ pub impl Sink for GroupTable as GroupTableSink {
         if self.nested >= MOST_OPEN {
             return Err(SinkFault::TooDeep);
         }
-        if self.places_left() < 2 {
+        if self.places_left() < OPEN_PLACES {
             return Err(SinkFault::NoPlaces);
         }
         let (inside, last) = (self.inside, self.last);
@@ -107,7 +113,7 @@ pub impl Sink for GroupTable as GroupTableSink {
         if !mark.is_good() {
             return Err(SinkFault::NotGood);
         }
-        if self.places_left() < 1 {
+        if self.places_left() < MARK_PLACES {
             return Err(SinkFault::NoPlaces);
         }
         let (inside, last) = (self.inside, self.last);

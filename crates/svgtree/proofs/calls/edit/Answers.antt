@@ -1,7 +1,3 @@
-use mathlib.Core.Path.{_≡_}
-use lib.ListN.{length}
-use Prim.Native.Nat.{_<_, _≤_}
-use native.Mathlib.Omega.{arith}
 use Rattle.svgtree.proofs.Running.{stands-written, stands-past, stands-last}
 use Rattle.svgtree.proofs.calls.edit.Needs as need
 use Rattle.svgtree.proofs.calls.edit.Needs.{then-i-answers, else-i-answers}

@@ -1,7 +1,5 @@
 use mathlib.Core.Path.{_≡_, refl, _∙_}
 use lib.ListN.{length}
-use Rattle.std.specs.declared.option.Option.{Option}
-use Prim.Native.Nat.{ℕ}
 use Rattle.svgtree.specs.Memory.{nodes-of, node-at}
 use Rattle.svgtree.specs.Links.{onward}
 use Rattle.svgtree.proofs.Following.{not-read, was-read, next-there}

@@ -7,8 +7,8 @@ use Rattle.group_table.proofs.Steps.{marked, parent-within, last-within}
 use Rattle.group_table.proofs.Calls.{mark-full, mark-done}
 use Rattle.group_table.proofs.table.sink.GroupTableSink.mark.Needs as need
 
-pub returns-then-places-left-lt1 : need.returns-then-places-left-lt1
-returns-then-places-left-lt1 c =
+pub returns-then-places-left-lt-MARK-PLACES : need.returns-then-places-left-lt-MARK-PLACES
+returns-then-places-left-lt-MARK-PLACES c =
     let good = sym (c .is-good .ensures) ∙ c .if-not-is-good .left in
     let q = mark-full (c .args .self .now) (c .if-not-self .left) (c .args .mark) good (omega (arith, c .places-left .ensures)) in
     record { answer = q .0; after = q .1 }

@@ -7,8 +7,8 @@ use Rattle.group_table.proofs.Steps.{opened, parent-within, last-within}
 use Rattle.group_table.proofs.Calls.{open-full, open-done}
 use Rattle.group_table.proofs.table.sink.GroupTableSink.open.Needs as need
 
-pub returns-then-places-left-lt2 : need.returns-then-places-left-lt2
-returns-then-places-left-lt2 c =
+pub returns-then-places-left-lt-OPEN-PLACES : need.returns-then-places-left-lt-OPEN-PLACES
+returns-then-places-left-lt-OPEN-PLACES c =
     let good = sym (c .is-good .ensures) ∙ c .if-not-is-good .left in
     let q = open-full (c .args .self .now) (c .if-not-self .left) (c .args .group) good (c .if-self-ge-MOST-OPEN .left) (omega (arith, c .places-left .ensures)) in
     record { answer = q .0; after = q .1 }
