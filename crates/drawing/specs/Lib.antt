@@ -1,0 +1,4 @@
+pub mod Grammar
+pub mod Values
+pub mod Commands
+pub mod Messages

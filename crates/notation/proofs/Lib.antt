@@ -1,0 +1,4 @@
+pub mod Naming
+mod Parting
+mod Numbering
+mod Units
