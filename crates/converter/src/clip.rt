@@ -27,7 +27,7 @@ fn has_use_size(state: &State) -> bool
 }
 
 /// The clip of a nested svg with this resolved rectangle, or none.
-pub fn svg_clip(element: &Element, state: &State, rect: Rect) -> Option<Rect>
+pub(crate) fn svg_clip(element: &Element, state: &State, rect: Rect) -> Option<Rect>
     ensures { λ r. ⌜ r ≡ svg-clip (now (element .entry)) (now (state .entry)) rect ⌝ }
 {
     let clips = keeps_in(element, rect) & (has_both_sizes(element) | has_use_size(state));
@@ -35,7 +35,7 @@ pub fn svg_clip(element: &Element, state: &State, rect: Rect) -> Option<Rect>
 }
 
 /// The clip of a used symbol with this resolved rectangle, or none.
-pub fn symbol_clip(symbol: &Element, rect: Rect) -> Option<Rect>
+pub(crate) fn symbol_clip(symbol: &Element, rect: Rect) -> Option<Rect>
     ensures { λ r. ⌜ r ≡ symbol-clip (now (symbol .entry)) rect ⌝ }
 {
     if keeps_in(symbol, rect) {

@@ -7,7 +7,7 @@ use record::Group;
 use record::Id;
 
 /// A group without clip.
-pub fn plain_group(id: Id, matrix: Matrix, opacity: f32) -> Group
+pub(crate) fn plain_group(id: Id, matrix: Matrix, opacity: f32) -> Group
     ensures { λ r. ⌜ r ≡ group id matrix opacity ⌝ }
 {
     Group {
@@ -19,7 +19,7 @@ pub fn plain_group(id: Id, matrix: Matrix, opacity: f32) -> Group
 }
 
 /// The group of a clip, whose decoration is plain.
-pub fn clip_group(id: Id, matrix: Matrix, clip: Rect) -> Group
+pub(crate) fn clip_group(id: Id, matrix: Matrix, clip: Rect) -> Group
     ensures { λ r. ⌜ r ≡ clip-group id matrix clip ⌝ }
 {
     Group {
@@ -31,7 +31,7 @@ pub fn clip_group(id: Id, matrix: Matrix, clip: Rect) -> Group
 }
 
 /// A spare group: left out when its decoration is plain and both its matrix and its element's own are the identity.
-pub fn spare_group(own: Matrix, matrix: Matrix, opacity: f32) -> Option<Group>
+pub(crate) fn spare_group(own: Matrix, matrix: Matrix, opacity: f32) -> Option<Group>
     ensures { λ r. ⌜ r ≡ spare own matrix opacity ⌝ }
 {
     let left_out = is_plain(opacity) & matrix.is_identity() & own.is_identity();

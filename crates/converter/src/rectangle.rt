@@ -15,14 +15,14 @@ use geom::convert_length;
 use geom::side_or_full;
 
 // A length in the viewport outside.
-pub fn measure(state: &State, direction: Direction, length: Length) -> f32
+pub(crate) fn measure(state: &State, direction: Direction, length: Length) -> f32
     ensures { λ r. ⌜ r ≡ measured (now (state .entry)) direction length ⌝ }
 {
     convert_length(length, direction, state.dpi, state.ruler)
 }
 
 // x or y, or 0 where it is missing.
-pub fn position(state: &State, direction: Direction, length: Option<Length>) -> f32
+pub(crate) fn position(state: &State, direction: Direction, length: Option<Length>) -> f32
     ensures { λ r. ⌜ r ≡ position (now (state .entry)) direction length ⌝ }
 {
     match length {
@@ -42,7 +42,11 @@ fn side(state: &State, direction: Direction, use_size: Option<f32>, own: Option<
 }
 
 /// The resolved rectangle of an element that is handed these sizes: a nested svg, or the use of a symbol.
-pub fn resolve_rect(element: &Element, sizes: (Option<f32>, Option<f32>), state: &State) -> Rect
+pub(crate) fn resolve_rect(
+    element: &Element,
+    sizes: (Option<f32>, Option<f32>),
+    state: &State,
+) -> Rect
     ensures { λ r. ⌜ r ≡ resolved-rect (now (element .entry)) sizes (now (state .entry)) ⌝ }
 {
     Rect {
@@ -64,7 +68,7 @@ pub fn resolve_rect(element: &Element, sizes: (Option<f32>, Option<f32>), state:
 }
 
 /// The place of the content in its rectangle: the translation to its corner, and within that the fit of the view box.
-pub fn viewbox_transform(rect: Rect, view_box: Option<Rect>, aspect: Aspect) -> Matrix
+pub(crate) fn viewbox_transform(rect: Rect, view_box: Option<Rect>, aspect: Aspect) -> Matrix
     ensures { λ r. ⌜ r ≡ placing rect «view_box» aspect ⌝ }
 {
     let translation = Matrix::from_translate(rect.x, rect.y);
@@ -85,7 +89,7 @@ pub fn viewbox_transform(rect: Rect, view_box: Option<Rect>, aspect: Aspect) -> 
 }
 
 /// The viewport inside: the view box, else the valid size, else the one outside.
-pub fn viewport(view_box: Option<Rect>, rect: Rect, outside: Ruler) -> Ruler
+pub(crate) fn viewport(view_box: Option<Rect>, rect: Rect, outside: Ruler) -> Ruler
     ensures { λ r. ⌜ r ≡ viewport «view_box» rect outside ⌝ }
 {
     if let Some(inside) = view_box {

@@ -38,7 +38,7 @@ pub struct Converted {
 }
 
 // What a rule gives, where all that it uses is finite.
-pub fn if_finite(ok: bool, converted: Converted) -> Result<Converted, Refusal>
+pub(crate) fn if_finite(ok: bool, converted: Converted) -> Result<Converted, Refusal>
     ensures { λ r. ⌜ r ≡ if-finite ok converted ⌝ }
 {
     if ok {
