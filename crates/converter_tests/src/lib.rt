@@ -1,5 +1,5 @@
-//! The rules of groups on directed drawings. The expected numbers are those on which a run of the Rust's functions
-//! and a second implementation from the rules agree.
+//! The rules of groups on directed drawings. Most of the expected numbers are ones on which a run of the Rust's functions
+//! and a second implementation from the rules agree; the others follow from the rules.
 
 #[cfg(test)]
 mod tests {
