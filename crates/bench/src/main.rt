@@ -1,6 +1,8 @@
 //! Reads a drawing's text from standard input, does what each line says, and prints what it did.
 //! With the word `people` the answers are written for people.
 
+#![tactic(auto)]
+
 mod pile;
 
 use anyhow::anyhow;

@@ -1,5 +1,7 @@
 //! The rules of groups: for one element, given what holds outside it, the groups it puts round its content and what holds inside.
 
+#![tactic(auto)]
+
 mod clip;
 mod drawn;
 mod groups;

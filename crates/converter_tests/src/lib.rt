@@ -1,6 +1,8 @@
 //! The rules of groups on directed drawings. Most of the expected numbers are ones on which a run of the Rust's functions
 //! and a second implementation from the rules agree; the others follow from the rules.
 
+#![tactic(auto)]
+
 #[cfg(test)]
 mod tests {
     use converter::{State, convert_svg, convert_symbol, convert_use, is_drawn};

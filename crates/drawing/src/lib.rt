@@ -1,5 +1,7 @@
 //! The text that people write: reading what its lines ask for.
 
+#![tactic(auto)]
+
 mod command;
 mod expected;
 mod value;

@@ -1,5 +1,7 @@
 //! What a node of a document is, apart from its place: its kind and its attributes.
 
+#![tactic(auto)]
+
 mod element;
 mod value;
 mod word;

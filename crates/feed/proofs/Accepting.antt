@@ -1,6 +1,6 @@
 -- A list of records is accepted exactly when the sink's meaning takes it. Assumes nothing.
 use Rattle.std.proofs.Common.{◌≡◌, ℕ, zero, suc, ◌+◌, ◌≤◌, true, false, not, eqb, leb, List, [], ◌∷◌, ◌++◌, map, length, Some, Ok, sym, refl, ap, ◌∙◌, subst, append_assoc, arith}
-use Rattle.std.specs.List.{AllByRecursion as All}
+use Rattle.std.specs.List.{AllByRecursion}
 use Rattle.std.proofs.lemmas.Bool.Decides.{nat_tests}
 use Rattle.std.proofs.lemmas.List.{append-nil}
 use Rattle.picture.specs.Script.{open_after}
@@ -83,7 +83,7 @@ abbrev OpenAt : Meaning → ℕ → Type 0
 OpenAt m d = opens m.script ≡ closes m.script + (length m.base.groups + d)
 
 abbrev Told : Meaning → ℕ → List Record → Type 0
-Told m d rs = All (λ r. good_record r ≡ true) rs × (open_after d (events rs) ≡ Some 0) × Fine m.limit (m.script ++ (map (entered m.rewriting) rs ++ base_closed m.base))
+Told m d rs = AllByRecursion (λ r. good_record r ≡ true) rs × (open_after d (events rs) ≡ Some 0) × Fine m.limit (m.script ++ (map (entered m.rewriting) rs ++ base_closed m.base))
 
 told_more : (m : Meaning) (d e : ℕ) (r : Record) (rs : List Record) → good_record r ≡ true → open_after d (events (r ∷ rs)) ≡ open_after e (events rs)
     → Told (with_script m (m.script ++ entered m.rewriting r ∷ []) true) e rs → Told m d (r ∷ rs)

@@ -1,6 +1,6 @@
 -- Which lists of records a sink takes.
 use Rattle.std.specs.Prelude.{◌≡◌, true, false, List, map}
-use Rattle.std.specs.List.{AllByRecursion as All}
+use Rattle.std.specs.List.{AllByRecursion}
 use Rattle.picture.specs.Script.{Event, Script, Balanced}
 use Rattle.picture.specs.Script.Event.{opened, marked, closed}
 use Rattle.record.specs.declared.Group.{Group}
@@ -25,7 +25,7 @@ events rs = map event_of rs
 -- A sink takes just the lists of which this holds.
 pub record Accepts (m : Meaning) (rs : List Record) : Type 0 where
   -- every group and every mark is good
-  pub good : All (λ r. good_record r ≡ true) rs
+  pub good : AllByRecursion (λ r. good_record r ≡ true) rs
   -- each open has its close, and no close is without its open
   pub balanced : Balanced (events rs)
   -- with the base, not too many groups are open at once

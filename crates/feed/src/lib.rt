@@ -1,5 +1,7 @@
 //! Feeds a list of records to a sink, whichever it is.
 
+#![tactic(auto)]
+
 ghost use Rattle.std.specs.Prelude.{◌≡◌, false, ◌↔◌, Ok, Err};
 ghost use Rattle.std.specs.Result.{result_map_both};
 ghost use Rattle.sink.specs.Calls.{cleared, with_script};

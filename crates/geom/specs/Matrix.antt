@@ -11,7 +11,7 @@ translation x y = record { a = whole 1; b = whole 0; c = whole 0; d = whole 1; e
 unfoldable pub identity : Matrix
 identity = record { a = whole 1; b = whole 0; c = whole 0; d = whole 1; e = whole 0; f = whole 0 }
 
--- A-as-B: B is applied first
+-- A·B: B is applied first
 unfoldable pub product : Matrix → Matrix → Matrix
 product A B =
     record {

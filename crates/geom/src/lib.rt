@@ -1,5 +1,7 @@
 //! Lengths, sizes, matrices and view boxes: the arithmetic of a layout, each operation rounded once to f32.
 
+#![tactic(auto)]
+
 mod invertible;
 mod length;
 mod matrix;

@@ -1,6 +1,8 @@
 //! Tests of the layout's arithmetic at its edges, and of reading an element's attributes.
 //! The expected floats were worked out from the rules in exact fractions, each operation rounded to the nearest f32.
 
+#![tactic(auto)]
+
 #[cfg(test)]
 mod bits;
 #[cfg(test)]

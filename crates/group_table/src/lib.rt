@@ -1,5 +1,7 @@
 //! The group table: a sink whose entries are linked by parent, child and sibling.
 
+#![tactic(auto)]
+
 mod bits;
 mod entries;
 mod entry;

@@ -3,8 +3,8 @@ ghost use Rattle.group_table.specs.Invariant.{Kept, Ends, Linked};
 use crate::entries::Entries;
 use crate::entry::Place;
 
+mod calls;
 mod questions;
-mod sink;
 
 /// A sink that keeps its records as entries linked by parent, child and sibling, in memory of its own.
 /// Entry n is record n of the script.

@@ -1,6 +1,8 @@
 //! One bounded list for every kind of record: generic functions over memory that the caller lends and a count of the
 //! records of it that are in use. A count is read as at most the number lent.
 
+#![tactic(auto)]
+
 ghost use Rattle.std.specs.Prelude.{◌≡◌, ℕ, min, length, nat_lt};
 ghost use Rattle.std.specs.List.{slice_get};
 ghost use Rattle.list.specs.Bounded.{used, count_added, Added, Replaced};

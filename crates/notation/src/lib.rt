@@ -1,5 +1,7 @@
 //! How names, numbers and lengths are written, and how a line is parted into words.
 
+#![tactic(auto)]
+
 mod form;
 mod length;
 mod name;

@@ -1,9 +1,9 @@
 -- Lists: what the proofs here want and the shelf lacks.
 use Rattle.std.proofs.Common.{◌≡◌, ℕ, zero, suc, Bool, List, [], ◌∷◌, ◌++◌, map, replicate, filter, sym, refl, ap, ◌∙◌, inl, inr, append_assoc, arith}
-use Rattle.std.specs.List.{flat_map, AllByRecursion as All}
+use Rattle.std.specs.List.{flat_map, AllByRecursion}
 use Rattle.std.proofs.lemmas.List.{map-append}
 use Rattle.std.proofs.lemmas.List.Elements.{filter-append}
-use Rattle.std.proofs.ByRecursion.{All-append}
+use Rattle.std.proofs.ByRecursion.{AllByRecursion-append}
 use Rattle.std.proofs.lemmas.Bool.{cases_Bool, cond-true, cond-false}
 use Rattle.picture.specs.Picture.{front}
 
@@ -27,7 +27,7 @@ pub joined_joined : {X Y A : Type 0} (f : Y → List A) (g : X → List Y) (xs :
 joined_joined f g [] = refl
 joined_joined f g (x ∷ xs) = joined_append f (g x) (flat_map g xs) ∙ ap (λ (ys : List _). flat_map f (g x) ++ ys) (joined_joined f g xs)
 
-pub joined_same : {X A : Type 0} (P : X → Type 0) (f g : X → List A) (xs : List X) → All P xs → ((x : X) → P x → f x ≡ g x) → flat_map f xs ≡ flat_map g xs
+pub joined_same : {X A : Type 0} (P : X → Type 0) (f g : X → List A) (xs : List X) → AllByRecursion P xs → ((x : X) → P x → f x ≡ g x) → flat_map f xs ≡ flat_map g xs
 joined_same P f g [] a h = refl
 joined_same P f g (x ∷ xs) a h = λ i. h x a.0 i ++ joined_same P f g xs a.1 h i
 
@@ -35,7 +35,7 @@ pub joined_by : {X A : Type 0} (f g : X → List A) (xs : List X) → ((x : X) �
 joined_by f g [] h = refl
 joined_by f g (x ∷ xs) h = λ i. h x i ++ joined_by f g xs h i
 
-pub joined_none : {X A : Type 0} (P : X → Type 0) (f : X → List A) (xs : List X) → All P xs → ((x : X) → P x → f x ≡ []) → flat_map f xs ≡ []
+pub joined_none : {X A : Type 0} (P : X → Type 0) (f : X → List A) (xs : List X) → AllByRecursion P xs → ((x : X) → P x → f x ≡ []) → flat_map f xs ≡ []
 joined_none P f [] a h = refl
 joined_none P f (x ∷ xs) a h = λ i. h x a.0 i ++ joined_none P f xs a.1 h i
 
@@ -54,21 +54,21 @@ kept_map p f (x ∷ xs) = elim (cases_Bool (p (f x))) [
   | inr e ↦ cond-false (p (f x)) _ _ e ∙ kept_map p f xs ∙ sym (ap (map f) (cond-false (p (f x)) _ _ e))
 ]
 
-pub all_both : {A : Type 0} (P Q : A → Type 0) (xs : List A) → All P xs → All Q xs → All (λ x. P x × Q x) xs
+pub all_both : {A : Type 0} (P Q : A → Type 0) (xs : List A) → AllByRecursion P xs → AllByRecursion Q xs → AllByRecursion (λ x. P x × Q x) xs
 all_both P Q [] a b = tt
 all_both P Q (x ∷ xs) a b = ((a.0, b.0), all_both P Q xs a.1 b.1)
 
-pub all_left : {A : Type 0} (P : A → Type 0) (xs ys : List A) → All P (xs ++ ys) → All P xs
+pub all_left : {A : Type 0} (P : A → Type 0) (xs ys : List A) → AllByRecursion P (xs ++ ys) → AllByRecursion P xs
 all_left P [] ys a = tt
 all_left P (x ∷ xs) ys a = (a.0, all_left P xs ys a.1)
 
-pub all_right : {A : Type 0} (P : A → Type 0) (xs ys : List A) → All P (xs ++ ys) → All P ys
+pub all_right : {A : Type 0} (P : A → Type 0) (xs ys : List A) → AllByRecursion P (xs ++ ys) → AllByRecursion P ys
 all_right P [] ys a = a
 all_right P (x ∷ xs) ys a = all_right P xs ys a.1
 
-pub all_joined : {X A : Type 0} (P : A → Type 0) (Q : X → Type 0) (f : X → List A) (xs : List X) → All Q xs → ((x : X) → Q x → All P (f x)) → All P (flat_map f xs)
+pub all_joined : {X A : Type 0} (P : A → Type 0) (Q : X → Type 0) (f : X → List A) (xs : List X) → AllByRecursion Q xs → ((x : X) → Q x → AllByRecursion P (f x)) → AllByRecursion P (flat_map f xs)
 all_joined P Q f [] a h = tt
-all_joined P Q f (x ∷ xs) a h = All-append P (f x) (flat_map f xs) (h x a.0) (all_joined P Q f xs a.1 h)
+all_joined P Q f (x ∷ xs) a h = AllByRecursion-append P (f x) (flat_map f xs) (h x a.0) (all_joined P Q f xs a.1 h)
 
 pub front_push : {A : Type 0} (xs : List A) (x : A) → front (xs ++ x ∷ []) ≡ xs
 front_push [] x = refl

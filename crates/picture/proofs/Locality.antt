@@ -1,7 +1,7 @@
 -- How a leaf is seen rests on its path alone.
 use Rattle.std.proofs.Common.{◌≡◌, ℕ, zero, suc, ◌<◌, ◌≤◌, Bool, true, cond, ◌&&◌, eqb, List, [], ◌∷◌, ◌++◌, Some, None, Option, sym, refl, ap, ◌∙◌, subst, inl, inr, arith}
 use mathlib.Core.List.Memᴰ
-use Rattle.std.specs.List.{AllByRecursion as All}
+use Rattle.std.specs.List.{AllByRecursion}
 use Rattle.std.proofs.lemmas.Bool.{cases_Bool, cases_eq, cond-true, eq-eqb, both_ways}
 use Rattle.picture.specs.Nodes.{Nodes, children, first_item, first_child, parent_item, climb, above, path, Tree}
 use Rattle.picture.specs.Rules.{Rules, leaf_at, drawn_at, groups_at, inside_at}
@@ -15,9 +15,9 @@ use Rattle.picture.proofs.Members.{Parted, children_parted, child_of, self_in}
 first_only : {Item : Type 0} (uses : Item → Bool) (d : Nodes Item) → OneChildUnder uses d → (p k : ℕ) → Child d p k → uses (d.item p) ≡ true → first_child d p ≡ Some (d.item k)
 first_only uses d one p k c u =
     let t : Parted k (children d p) = children_parted d p k c in
-    ap (first_item d) t.is ∙ go t.left t.right (subst (All (Child d p)) t.is (children_are d p)) t.lefts
+    ap (first_item d) t.is ∙ go t.left t.right (subst (AllByRecursion (Child d p)) t.is (children_are d p)) t.lefts
   where
-    go : (js ks : List ℕ) → All (Child d p) (js ++ k ∷ ks) → All (λ j. j < k) js → first_item d (js ++ k ∷ ks) ≡ Some (d.item k)
+    go : (js ks : List ℕ) → AllByRecursion (Child d p) (js ++ k ∷ ks) → AllByRecursion (λ j. j < k) js → first_item d (js ++ k ∷ ks) ≡ Some (d.item k)
     go [] ks a b = refl
     go (j ∷ js) ks a b =
         let e : j ≡ k = one j k a.0.low a.0.high c.low c.high (a.0.parent ∙ sym c.parent) (ap (λ (x : ℕ). uses (d.item x)) a.0.parent ∙ u) in

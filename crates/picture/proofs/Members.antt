@@ -2,7 +2,7 @@
 use Rattle.std.proofs.Common.{◌≡◌, ℕ, zero, suc, ◌+◌, ◌-◌, ◌<◌, ◌≤◌, Bool, true, eqb, ◌⊎◌, List, [], ◌∷◌, ◌++◌, filter, sym, refl, ap, ◌∙◌, subst, inl, inr, append_assoc, append-nil, arith}
 use mathlib.Core.List.Memᴰ
 use mathlib.Core.List.{append_cancel_left}
-use Rattle.std.specs.List.{range_with_len, AllByRecursion as All}
+use Rattle.std.specs.List.{range_with_len, AllByRecursion}
 use Rattle.std.proofs.lemmas.Bool.{cases_eq, cases_Bool, cond-true, cond-false, eq-eqb}
 use Rattle.picture.specs.Nodes.{Nodes, children, climb, above, path, Tree}
 use Rattle.picture.specs.Brackets.{In}
@@ -13,16 +13,16 @@ pub record Parted (n : ℕ) (ks : List ℕ) : Type 0 where
   pub left : List ℕ
   pub right : List ℕ
   pub is : ks ≡ left ++ n ∷ right
-  pub lefts : All (λ k. k < n) left
-  pub rights : All (λ k. n < k) right
+  pub lefts : AllByRecursion (λ k. k < n) left
+  pub rights : AllByRecursion (λ k. n < k) right
 
-counted_above : (p : ℕ → Bool) (b a m : ℕ) → b < a → All (λ k. b < k) (filter p (range_with_len a m))
+counted_above : (p : ℕ → Bool) (b a m : ℕ) → b < a → AllByRecursion (λ k. b < k) (filter p (range_with_len a m))
 counted_above p b a zero h = tt
 counted_above p b a (suc m) h =
-    let rest : All (λ k. b < k) (filter p (range_with_len (a + 1) m)) = counted_above p b (a + 1) m (omega arith) in
+    let rest : AllByRecursion (λ k. b < k) (filter p (range_with_len (a + 1) m)) = counted_above p b (a + 1) m (omega arith) in
     elim (cases_Bool (p a)) [
-      | inl e ↦ subst (All (λ k. b < k)) (sym (cond-true (p a) _ _ e)) (h, rest)
-      | inr e ↦ subst (All (λ k. b < k)) (sym (cond-false (p a) _ _ e)) rest
+      | inl e ↦ subst (AllByRecursion (λ k. b < k)) (sym (cond-true (p a) _ _ e)) (h, rest)
+      | inr e ↦ subst (AllByRecursion (λ k. b < k)) (sym (cond-false (p a) _ _ e)) rest
     ]
 
 counting_parted : (p : ℕ → Bool) (n a m : ℕ) → a ≤ n → n < a + m → p n ≡ true → Parted n (filter p (range_with_len a m))

@@ -1,6 +1,6 @@
 -- The nest of a node: step by step, and balanced.
 use Rattle.std.proofs.Common.{◌≡◌, ℕ, zero, suc, Bool, true, false, cond, List, [], ◌∷◌, filter, sym, refl, ap, ◌∙◌, subst, inl, inr}
-use Rattle.std.specs.List.{flat_map, AllByRecursion as All}
+use Rattle.std.specs.List.{flat_map, AllByRecursion}
 use Rattle.std.proofs.lemmas.Bool.{cases_Bool, cond-true, cond-false, both_ways}
 use Rattle.picture.specs.Script.{Script, within, Balanced}
 use Rattle.picture.specs.Script.Event.{marked}
@@ -43,7 +43,7 @@ module _ {Item State Group Mark : Type 0} (R : Rules Item State Group Mark) (d :
   pub leaf_alone : BareLeaves R d → (n : ℕ) → leaf_at R d n ≡ true → children d n ≡ []
   leaf_alone bare n e = go (children d n) (children_are d n)
     where
-      go : (ks : List ℕ) → All (Child d n) ks → ks ≡ []
+      go : (ks : List ℕ) → AllByRecursion (Child d n) ks → ks ≡ []
       go [] a = refl
       go (k ∷ ks) a = absurd (both_ways (leaf_at R d n) (ap (leaf_at R d) (sym a.0.parent) ∙ bare k a.0.low a.0.high) e)
 

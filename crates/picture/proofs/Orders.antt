@@ -1,7 +1,7 @@
 -- Document order has each node once; and how long a nest can be.
 use Rattle.std.proofs.Common.{◌≡◌, ℕ, zero, suc, ◌+◌, ◌*◌, ◌<◌, ◌≤◌, Bool, true, false, cond, not, eqb, List, [], ◌∷◌, ◌++◌, map, length, replicate, filter, sym, refl, ap, ◌∙◌, subst, inl, inr, mul-one, mul-add, arith, length-append}
 use lib.ListN.{length-replicate}
-use Rattle.std.specs.List.{flat_map, AllByRecursion as All}
+use Rattle.std.specs.List.{flat_map, AllByRecursion}
 use Rattle.std.proofs.lemmas.List.{length-map}
 use Rattle.std.proofs.lemmas.List.Filters.{length-filter_both}
 use Rattle.std.proofs.lemmas.Bool.{cases_Bool, cases_eq, cond-true, cond-false, eq-eqb, ne_eqb, not_from_true, not_from_false}
@@ -24,11 +24,11 @@ abbrev others : ℕ → List ℕ → List ℕ
 others n xs = filter (λ m. not (eqb m n)) xs
 
 -- all but the greatest are smaller
-others_below : (n : ℕ) (xs : List ℕ) → All (λ m. m < suc n) xs → All (λ m. m < n) (others n xs)
+others_below : (n : ℕ) (xs : List ℕ) → AllByRecursion (λ m. m < suc n) xs → AllByRecursion (λ m. m < n) (others n xs)
 others_below n [] a = tt
 others_below n (x ∷ xs) a = elim (cases_eq x n) [
-  | inl e ↦ subst (All (λ m. m < n)) (sym (cond-false (not (eqb x n)) _ _ (not_from_true (eqb x n) (eq-eqb x n e)))) (others_below n xs a.1)
-  | inr e ↦ subst (All (λ m. m < n)) (sym (cond-true (not (eqb x n)) _ _ (not_from_false (eqb x n) (ne_eqb x n e)))) (omega (arith, a.0), others_below n xs a.1)
+  | inl e ↦ subst (AllByRecursion (λ m. m < n)) (sym (cond-false (not (eqb x n)) _ _ (not_from_true (eqb x n) (eq-eqb x n e)))) (others_below n xs a.1)
+  | inr e ↦ subst (AllByRecursion (λ m. m < n)) (sym (cond-true (not (eqb x n)) _ _ (not_from_false (eqb x n) (ne_eqb x n e)))) (omega (arith, a.0), others_below n xs a.1)
 ]
 
 -- another number is kept where n is left out
@@ -44,7 +44,7 @@ kept_others n k ne (x ∷ xs) = elim (cases_eq x n) [
       ∙ ap (λ (ys : List ℕ). cond (eqb x k) (x ∷ ys) ys) (kept_others n k ne xs)
 ]
 
-once_length : (n : ℕ) (xs : List ℕ) → All (λ m. m < n) xs → ((k : ℕ) → k < n → filter (λ m. eqb m k) xs ≡ k ∷ []) → length xs ≡ n
+once_length : (n : ℕ) (xs : List ℕ) → AllByRecursion (λ m. m < n) xs → ((k : ℕ) → k < n → filter (λ m. eqb m k) xs ≡ k ∷ []) → length xs ≡ n
 once_length zero [] a h = refl
 once_length zero (x ∷ xs) a h = absurd (omega (arith, a.0))
 once_length (suc n) xs a h =
@@ -86,7 +86,7 @@ module _ {Item : Type 0} (d : Nodes Item) (L : ℕ) (tree : Tree d L) where
       ∙ nodes_one_by_one (filter (shown (owning plain) d) (order d L 0))
       ∙ kept_all (shown (owning plain) d) (λ n. all_drawn (path d n)) (order d L 0)
 
-  order_below : (l n : ℕ) → n < d.count → All (λ m. m < d.count) (order d l n)
+  order_below : (l n : ℕ) → n < d.count → AllByRecursion (λ m. m < d.count) (order d l n)
   unfolding order
   order_below zero n h = tt
   order_below (suc l) n h = (h, all_joined (λ m. m < d.count) (Child d n) (λ k. order d l k) (children d n) (children_are d n) (λ k c. order_below l k c.high))
@@ -105,7 +105,7 @@ order_has_each_node_once d l t = (order_below d l t l 0 t.root, order_once d l t
 
 -- THE LENGTH OF A NEST
 
-length_joined_le : {X A B : Type 0} (b : ℕ) (P : X → Type 0) (f : X → List A) (g : X → List B) → ((x : X) → P x → length (f x) ≤ b * length (g x)) → (xs : List X) → All P xs → length (flat_map f xs) ≤ b * length (flat_map g xs)
+length_joined_le : {X A B : Type 0} (b : ℕ) (P : X → Type 0) (f : X → List A) (g : X → List B) → ((x : X) → P x → length (f x) ≤ b * length (g x)) → (xs : List X) → AllByRecursion P xs → length (flat_map f xs) ≤ b * length (flat_map g xs)
 length_joined_le b P f g h [] a = omega arith
 length_joined_le b P f g h (x ∷ xs) a =
     let p : length (f x) ≤ b * length (g x) = h x a.0 in

@@ -1,6 +1,6 @@
 -- Children, and what is above them; states, chains and drawing along paths.
 use Rattle.std.proofs.Common.{◌≡◌, ℕ, zero, suc, ◌+◌, ◌-◌, ◌<◌, ◌≤◌, Bool, true, false, cond, ◌&&◌, eqb, ◌⊎◌, List, [], ◌∷◌, ◌++◌, filter, sym, refl, ap, ◌∙◌, inl, inr, append_assoc, append-nil, arith}
-use Rattle.std.specs.List.{range_with_len, AllByRecursion as All}
+use Rattle.std.specs.List.{range_with_len, AllByRecursion}
 use Rattle.std.proofs.lemmas.Bool.{cases_eq, cases_Bool, cases_lt, eqb-true, ne_eqb, eq-eqb, cond-true, cond-false, and_from, and_left, and_right, and_parts}
 use Rattle.picture.specs.Nodes.{Nodes, children, climb, above, path, Tree}
 use Rattle.picture.specs.Rules.{Rules, drawn_at, groups_at, inside_at}
@@ -13,18 +13,18 @@ module _ {Item : Type 0} (d : Nodes Item) where
     pub high : k < d.count
     pub parent : d.parent k ≡ n
 
-  childs : (n a m : ℕ) → 0 < a → (m ≡ 0) ⊎ (a + m ≤ d.count) → All (Child n) (filter (λ k. eqb (d.parent k) n) (range_with_len a m))
+  childs : (n a m : ℕ) → 0 < a → (m ≡ 0) ⊎ (a + m ≤ d.count) → AllByRecursion (Child n) (filter (λ k. eqb (d.parent k) n) (range_with_len a m))
   childs n a zero h l = tt
   childs n a (suc m) h (inl l) = absurd (omega arith)
   childs n a (suc m) h (inr l) =
-      let rest : All (Child n) (filter (λ k. eqb (d.parent k) n) (range_with_len (a + 1) m)) = childs n (a + 1) m (omega arith) (inr (omega arith)) in
+      let rest : AllByRecursion (Child n) (filter (λ k. eqb (d.parent k) n) (range_with_len (a + 1) m)) = childs n (a + 1) m (omega arith) (inr (omega arith)) in
       let b : Bool = eqb (d.parent a) n in
       elim (cases_Bool b) [
         | inl e ↦ rw (cond-true b _ _ e) (record { low = h; high = omega arith; parent = eqb-true (d.parent a) n e }, rest)
         | inr e ↦ rw (cond-false b _ _ e) rest
       ]
 
-  pub children_are : (n : ℕ) → All (Child n) (children d n)
+  pub children_are : (n : ℕ) → AllByRecursion (Child n) (children d n)
   children_are n = childs n 1 (d.count - 1) (omega arith) (elim (cases_lt 0 d.count) [ inl h ↦ inr (omega arith) | inr h ↦ inl (omega arith) ])
 
 module _ {Item : Type 0} (d : Nodes Item) (l : ℕ) (tree : Tree d l) where

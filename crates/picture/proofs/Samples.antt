@@ -1,7 +1,7 @@
 -- The sample document, and that scripts which are not its own are told apart.
 use Rattle.std.proofs.Common.{◌≡◌, ℕ, zero, suc, ◌<◌, List, [], ◌∷◌, ◌++◌, length, sym, refl, ap, ◌∙◌, subst, append_assoc, append-nil, arith}
 use mathlib.Core.List.Memᴰ
-use Rattle.std.specs.List.{AllByRecursion as All}
+use Rattle.std.specs.List.{AllByRecursion}
 use Rattle.picture.specs.Script.{Event, Script, Balanced}
 use Rattle.picture.specs.Script.Event.{opened, marked, closed}
 use Rattle.picture.specs.Picture.{picture}
@@ -116,7 +116,7 @@ cut Q (closed ∷ xs) pre (x ∷ y) z h e =
 
 -- what no stretch of node n has between and after its groups
 abbrev NoStretch : ℕ → Tape → Tape → Type 0
-NoStretch n y z = Balanced y → All (Inside sample n) y → All (Outside sample n) z → ⊥
+NoStretch n y z = Balanced y → AllByRecursion (Inside sample n) y → AllByRecursion (Outside sample n) z → ⊥
 
 root_on_path_2 : In 0 (path sample 2)
 unfolding climb
@@ -140,7 +140,7 @@ early_cuts = ((λ n i o. o.1.0 root_on_path_2), ((λ n i o. o.0 root_on_path_2),
 early_not : Stretch sample 0 (a ∷ []) (early a b c m) → ⊥
 early_not s = go s.before s.splits s.outside_before
   where
-    go : (x : Tape) → early a b c m ≡ x ++ (((opened a ∷ s.between) ++ closed ∷ []) ++ s.after) → All (Outside sample 0) x → ⊥
+    go : (x : Tape) → early a b c m ≡ x ++ (((opened a ∷ s.between) ++ closed ∷ []) ++ s.after) → AllByRecursion (Outside sample 0) x → ⊥
     go [] e o = cut (NoStretch 0) (opened b ∷ marked m ∷ closed ∷ closed ∷ opened c ∷ closed ∷ []) [] s.between s.after early_cuts (cc) s.balanced s.inside s.outside_after
     go (r ∷ x) e o = let p : opened a ≡ r = cc in subst (Outside sample 0) (sym p) o.0 root_on_path_0
 
@@ -150,7 +150,7 @@ late_cuts = ((λ n i o. leaf_not_above_2 i.1.0), ((λ n i o. leaf_not_above_2 i.
 late_not : Stretch sample 1 (b ∷ []) (late a b c m) → ⊥
 late_not s = go s.before s.splits s.outside_before
   where
-    go : (x : Tape) → late a b c m ≡ x ++ (((opened b ∷ s.between) ++ closed ∷ []) ++ s.after) → All (Outside sample 1) x → ⊥
+    go : (x : Tape) → late a b c m ≡ x ++ (((opened b ∷ s.between) ++ closed ∷ []) ++ s.after) → AllByRecursion (Outside sample 1) x → ⊥
     go [] e o = let q : a ≡ b = cc in let z : ◌≡◌ {A = ℕ} 0 1 = ap (λ (g : Owned ℕ). g.node) q in omega arith
     go (r ∷ []) e o = cut (NoStretch 1) (marked m ∷ opened c ∷ closed ∷ closed ∷ closed ∷ []) [] s.between s.after late_cuts (cc) s.balanced s.inside s.outside_after
     go (r ∷ (q ∷ x)) e o = let p : opened b ≡ q = cc in subst (Outside sample 1) (sym p) o.1.0 leaf_on_path_1

@@ -1,10 +1,10 @@
 -- Each shown node has its stretch of the nest, and its groups open once.
 use Rattle.std.proofs.Common.{◌≡◌, ℕ, zero, suc, ◌+◌, ◌<◌, ◌≤◌, true, false, eqb, List, [], ◌∷◌, ◌++◌, map, length, replicate, filter, sym, refl, ap, ◌∙◌, subst, inl, inr, append_assoc, append-nil, arith}
 use mathlib.Core.List.Memᴰ
-use Rattle.std.specs.List.{flat_map, AllByRecursion as All}
+use Rattle.std.specs.List.{flat_map, AllByRecursion}
 use Rattle.std.proofs.lemmas.List.{length_push}
 use Rattle.std.proofs.lemmas.List.Elements.{filter-append}
-use Rattle.std.proofs.ByRecursion.{All-append, All-weaker}
+use Rattle.std.proofs.ByRecursion.{AllByRecursion-append, AllByRecursion-weaker}
 use Rattle.std.proofs.lemmas.Bool.{cases_Bool, cases_eq, cond-true, cond-false, both_ways, eq-eqb, ne_eqb}
 use Rattle.picture.specs.Script.{Event, Script, rewrite, within, groups_opened}
 use Rattle.picture.specs.Script.Event.{opened, marked, closed}
@@ -52,18 +52,18 @@ module _ {Item State Group Mark : Type 0} (R : Rules Item State Group Mark) (d :
 -- WHAT HOLDS OF EACH EVENT
 
 module _ {Group Mark : Type 0} (P : Event (Owned Group) (Owned Mark) → Type 0) where
-  all_opens : (n i : ℕ) (gs : List Group) → ((g : Owned Group) → g.node ≡ n → P (opened g)) → All P (map opened (owned_by n i gs))
+  all_opens : (n i : ℕ) (gs : List Group) → ((g : Owned Group) → g.node ≡ n → P (opened g)) → AllByRecursion P (map opened (owned_by n i gs))
   all_opens n i [] h = tt
   all_opens n i (g ∷ gs) h = (h (record { node = n; place = i; thing = g }) refl, all_opens n (i + 1) gs h)
 
-  all_closes : (n : ℕ) → P closed → All P (replicate n closed)
+  all_closes : (n : ℕ) → P closed → AllByRecursion P (replicate n closed)
   all_closes zero h = tt
   all_closes (suc n) h = (h, all_closes n h)
 
-  all_within : (n i : ℕ) (gs : List Group) (s : Script (Owned Group) (Owned Mark)) → ((g : Owned Group) → g.node ≡ n → P (opened g)) → All P s → P closed → All P (within (owned_by n i gs) s)
+  all_within : (n i : ℕ) (gs : List Group) (s : Script (Owned Group) (Owned Mark)) → ((g : Owned Group) → g.node ≡ n → P (opened g)) → AllByRecursion P s → P closed → AllByRecursion P (within (owned_by n i gs) s)
   all_within n i gs s h a c =
-      All-append P (map opened (owned_by n i gs) ++ s) (replicate (length (owned_by n i gs)) closed)
-      (All-append P (map opened (owned_by n i gs)) s (all_opens n i gs h) a) (all_closes (length (owned_by n i gs)) c)
+      AllByRecursion-append P (map opened (owned_by n i gs) ++ s) (replicate (length (owned_by n i gs)) closed)
+      (AllByRecursion-append P (map opened (owned_by n i gs)) s (all_opens n i gs h) a) (all_closes (length (owned_by n i gs)) c)
 
 module _ {Item State Group Mark : Type 0} (R : Rules Item State Group Mark) (d : Nodes Item) (L : ℕ) (tree : Tree d L) (bare : BareLeaves R d) where
   -- an event of a node of which P holds
@@ -100,25 +100,25 @@ module _ {Item State Group Mark : Type 0} (R : Rules Item State Group Mark) (d :
   of_from_held n closed p = tt
 
   -- the content of n is held by it, where the nests of its children are of these and what is below them
-  held_content : (l n : ℕ) (s : State) → n < d.count → ((k : ℕ) (u : State) → k < d.count → All (About (Of k)) (nest (owning R) d l k u)) → All (Held n) (content (owning R) d l n s)
+  held_content : (l n : ℕ) (s : State) → n < d.count → ((k : ℕ) (u : State) → k < d.count → AllByRecursion (About (Of k)) (nest (owning R) d l k u)) → AllByRecursion (Held n) (content (owning R) d l n s)
   held_content l n s h ih = elim (cases_Bool (leaf_at R d n)) [
-    | inl e ↦ subst (All (Held n)) (sym (cond-true (leaf_at (owning R) d n) _ _ e)) ((self_in d n, h), tt)
-    | inr e ↦ subst (All (Held n)) (sym (cond-false (leaf_at (owning R) d n) _ _ e))
+    | inl e ↦ subst (AllByRecursion (Held n)) (sym (cond-true (leaf_at (owning R) d n) _ _ e)) ((self_in d n, h), tt)
+    | inr e ↦ subst (AllByRecursion (Held n)) (sym (cond-false (leaf_at (owning R) d n) _ _ e))
         (all_joined (Held n) (Child d n) (λ k. nest (owning R) d l k (inside_at R d n s)) (children d n) (children_are d n)
-        (λ k c. All-weaker (About (Of k)) (Held n) (held_from_child n k c) (nest (owning R) d l k (inside_at R d n s)) (ih k (inside_at R d n s) c.high)))
+        (λ k c. AllByRecursion-weaker (About (Of k)) (Held n) (held_from_child n k c) (nest (owning R) d l k (inside_at R d n s)) (ih k (inside_at R d n s) c.high)))
   ]
 
   -- the nest of a node has events of it and of nodes below it
-  of_nest : (l n : ℕ) (s : State) → n < d.count → All (About (Of n)) (nest (owning R) d l n s)
+  of_nest : (l n : ℕ) (s : State) → n < d.count → AllByRecursion (About (Of n)) (nest (owning R) d l n s)
   unfolding nest
   of_nest zero n s h = tt
   of_nest (suc l) n s h = elim (cases_Bool (drawn_at R d n)) [
-    | inl e ↦ subst (All (About (Of n))) (sym (nest_drawn (owning R) d l n s e))
+    | inl e ↦ subst (AllByRecursion (About (Of n))) (sym (nest_drawn (owning R) d l n s e))
         (all_within (About (Of n)) n 0 (groups_at R d n s) (content (owning R) d l n s)
         (λ g q. let P : ℕ → Type 0 = Of n in subst P (sym q) (h, self_in d n))
-        (All-weaker (Held n) (About (Of n)) (of_from_held n) (content (owning R) d l n s) (held_content l n s h (λ k u g. of_nest l k u g)))
+        (AllByRecursion-weaker (Held n) (About (Of n)) (of_from_held n) (content (owning R) d l n s) (held_content l n s h (λ k u g. of_nest l k u g)))
         tt)
-    | inr e ↦ subst (All (About (Of n))) (sym (nest_not_drawn (owning R) d l n s e)) tt
+    | inr e ↦ subst (AllByRecursion (About (Of n))) (sym (nest_not_drawn (owning R) d l n s e)) tt
   ]
 
   module _ (s₀ : State) where
@@ -129,8 +129,8 @@ module _ {Item State Group Mark : Type 0} (R : Rules Item State Group Mark) (d :
       after : Script (Owned Group) (Owned Mark)
       splits : nest (owning R) d L 0 s₀ ≡ before ++ (nest (owning R) d (suc l) n (state_of R d s₀ n) ++ after)
       room : length (above d n) + suc l ≡ L
-      befores : All (About (Off n)) before
-      afters : All (About (Off n)) after
+      befores : AllByRecursion (About (Off n)) before
+      afters : AllByRecursion (About (Off n)) after
 
     found_root : Found 0
     unfolding climb
@@ -167,12 +167,12 @@ module _ {Item State Group Mark : Type 0} (R : Rules Item State Group Mark) (d :
       off_other : (k : ℕ) → Child d p k → (k ≡ n → ⊥) → (r : Event (Owned Group) (Owned Mark)) → About (Of k) r → About (Off n) r
       off_other k b ne r a = about_more (Of k) (Off n) (λ m o. (o.0, λ i. ne (same_child d L tree p k n m b c o.0 o.1 i))) r a
 
-      off_others : (l : ℕ) (u : State) (ks : List ℕ) → All (λ k. Child d p k × (k ≡ n → ⊥)) ks → All (About (Off n)) (flat_map (λ k. nest (owning R) d l k u) ks)
+      off_others : (l : ℕ) (u : State) (ks : List ℕ) → AllByRecursion (λ k. Child d p k × (k ≡ n → ⊥)) ks → AllByRecursion (About (Off n)) (flat_map (λ k. nest (owning R) d l k u) ks)
       off_others l u ks a =
           all_joined (About (Off n)) (λ k. Child d p k × (k ≡ n → ⊥)) (λ k. nest (owning R) d l k u) ks a
-          (λ k b. All-weaker (About (Of k)) (About (Off n)) (off_other k b.0 b.1) (nest (owning R) d l k u) (of_nest l k u b.0.high))
+          (λ k b. AllByRecursion-weaker (About (Of k)) (About (Off n)) (off_other k b.0 b.1) (nest (owning R) d l k u) (of_nest l k u b.0.high))
 
-      off_opens : (u : State) → All (About (Off n)) (map opened (owned_by p 0 (groups_at R d p u)))
+      off_opens : (u : State) → AllByRecursion (About (Off n)) (map opened (owned_by p 0 (groups_at R d p u)))
       off_opens u = all_opens (About (Off n)) p 0 (groups_at R d p u) (λ g e.
           let P : ℕ → Type 0 = Off n in
           let lt : p < n = lt_parent in
@@ -181,22 +181,22 @@ module _ {Item State Group Mark : Type 0} (R : Rules Item State Group Mark) (d :
           subst P (sym e) (h, λ i. let le : n ≤ p = in_le d L tree n p h i in omega arith))
 
       -- the other children of p, on either side of n
-      others_left : (t : Parted n (children d p)) → All (λ k. Child d p k × (k ≡ n → ⊥)) t.left
+      others_left : (t : Parted n (children d p)) → AllByRecursion (λ k. Child d p k × (k ≡ n → ⊥)) t.left
       others_left t =
-          let ks : All (Child d p) (t.left ++ n ∷ t.right) = subst (All (Child d p)) t.is (children_are d p) in
-          All-weaker (λ k. Child d p k × (k < n)) (λ k. Child d p k × (k ≡ n → ⊥)) (λ k x. (x.0, λ y. omega (arith, x.1))) t.left
+          let ks : AllByRecursion (Child d p) (t.left ++ n ∷ t.right) = subst (AllByRecursion (Child d p)) t.is (children_are d p) in
+          AllByRecursion-weaker (λ k. Child d p k × (k < n)) (λ k. Child d p k × (k ≡ n → ⊥)) (λ k x. (x.0, λ y. omega (arith, x.1))) t.left
           (all_both (Child d p) (λ k. k < n) t.left (all_left (Child d p) t.left (n ∷ t.right) ks) t.lefts)
 
-      others_right : (t : Parted n (children d p)) → All (λ k. Child d p k × (k ≡ n → ⊥)) t.right
+      others_right : (t : Parted n (children d p)) → AllByRecursion (λ k. Child d p k × (k ≡ n → ⊥)) t.right
       others_right t =
-          let ks : All (Child d p) (t.left ++ n ∷ t.right) = subst (All (Child d p)) t.is (children_are d p) in
-          All-weaker (λ k. Child d p k × (n < k)) (λ k. Child d p k × (k ≡ n → ⊥)) (λ k x. (x.0, λ y. omega (arith, x.1))) t.right
+          let ks : AllByRecursion (Child d p) (t.left ++ n ∷ t.right) = subst (AllByRecursion (Child d p)) t.is (children_are d p) in
+          AllByRecursion-weaker (λ k. Child d p k × (n < k)) (λ k. Child d p k × (k ≡ n → ⊥)) (λ k x. (x.0, λ y. omega (arith, x.1))) t.right
           (all_both (Child d p) (λ k. n < k) t.right (all_right (Child d p) t.left (n ∷ t.right) ks).1 t.rights)
 
       deeper : length (above d n) ≡ length (above d p) + 1
       deeper = ap length (above_child d L tree p n c) ∙ length_push (above d p) p
 
-      found_child : (l : ℕ) (before after : Script (Owned Group) (Owned Mark)) → nest (owning R) d L 0 s₀ ≡ before ++ (nest (owning R) d (suc l) p (state_of R d s₀ p) ++ after) → length (above d p) + suc l ≡ L → All (About (Off p)) before → All (About (Off p)) after → Found n
+      found_child : (l : ℕ) (before after : Script (Owned Group) (Owned Mark)) → nest (owning R) d L 0 s₀ ≡ before ++ (nest (owning R) d (suc l) p (state_of R d s₀ p) ++ after) → length (above d p) + suc l ≡ L → AllByRecursion (About (Off p)) before → AllByRecursion (About (Off p)) after → Found n
       found_child zero before after e r b a =
           let h : length (above d n) < L = tree.levels n c.high in
           let q : length (above d n) ≡ length (above d p) + 1 = deeper in
@@ -225,11 +225,11 @@ module _ {Item State Group Mark : Type 0} (R : Rules Item State Group Mark) (d :
                 ∙ ap (λ (x : Script (Owned Group) (Owned Mark)). (before ++ (O ++ flat_map F t.left)) ++ (x ++ (flat_map F t.right ++ (C ++ after)))) st;
             room = omega arith;
             befores =
-                All-append (About (Off n)) before (O ++ flat_map F t.left) (All-weaker (About (Off p)) (About (Off n)) off_child before b)
-                (All-append (About (Off n)) O (flat_map F t.left) (off_opens u) (off_others (suc l) v t.left (others_left t)));
+                AllByRecursion-append (About (Off n)) before (O ++ flat_map F t.left) (AllByRecursion-weaker (About (Off p)) (About (Off n)) off_child before b)
+                (AllByRecursion-append (About (Off n)) O (flat_map F t.left) (off_opens u) (off_others (suc l) v t.left (others_left t)));
             afters =
-                All-append (About (Off n)) (flat_map F t.right) (C ++ after) (off_others (suc l) v t.right (others_right t))
-                (All-append (About (Off n)) C after (all_closes (About (Off n)) (length gs) tt) (All-weaker (About (Off p)) (About (Off n)) off_child after a));
+                AllByRecursion-append (About (Off n)) (flat_map F t.right) (C ++ after) (off_others (suc l) v t.right (others_right t))
+                (AllByRecursion-append (About (Off n)) C after (all_closes (About (Off n)) (length gs) tt) (AllByRecursion-weaker (About (Off p)) (About (Off n)) off_child after a));
           }
 
     found_by : (b n : ℕ) → n ≤ b → n < d.count → shown R d n ≡ true → Found n
@@ -258,30 +258,30 @@ module _ {Item State Group Mark : Type 0} (R : Rules Item State Group Mark) (d :
           after = f.after;
           splits = f.splits ∙ ap (λ (x : Script (Owned Group) (Owned Mark)). f.before ++ (x ++ f.after)) (nest_drawn (owning R) d f.l n s (shown_parts R d n sh).1);
           balanced = balanced_content (owning R) d f.l n s (balanced_nest (owning R) d f.l);
-          inside = All-weaker (Held n) (Inside d n) (λ r p. p.0) (content (owning R) d f.l n s) (held_content f.l n s h (of_nest f.l));
-          outside_before = All-weaker (About (Off n)) (Outside d n) (outside_from_off n) f.before f.befores;
-          outside_after = All-weaker (About (Off n)) (Outside d n) (outside_from_off n) f.after f.afters;
+          inside = AllByRecursion-weaker (Held n) (Inside d n) (λ r p. p.0) (content (owning R) d f.l n s) (held_content f.l n s h (of_nest f.l));
+          outside_before = AllByRecursion-weaker (About (Off n)) (Outside d n) (outside_from_off n) f.before f.befores;
+          outside_after = AllByRecursion-weaker (About (Off n)) (Outside d n) (outside_from_off n) f.after f.afters;
         }
 
     -- all is of shown nodes
     abbrev OfShown : Event (Owned Group) (Owned Mark) → Type 0
     OfShown r = About (λ m. shown R d m ≡ true) r
 
-    nest_of_shown : (l n : ℕ) → every (drawn_at R d) (above d n) ≡ true → All OfShown (nest (owning R) d l n (state_of R d s₀ n))
+    nest_of_shown : (l n : ℕ) → every (drawn_at R d) (above d n) ≡ true → AllByRecursion OfShown (nest (owning R) d l n (state_of R d s₀ n))
     unfolding nest
     nest_of_shown zero n h = tt
     nest_of_shown (suc l) n h = elim (cases_Bool (drawn_at R d n)) [
-      | inr e ↦ subst (All OfShown) (sym (nest_not_drawn (owning R) d l n (state_of R d s₀ n) e)) tt
+      | inr e ↦ subst (AllByRecursion OfShown) (sym (nest_not_drawn (owning R) d l n (state_of R d s₀ n) e)) tt
       | inl e ↦
           let sh : shown R d n ≡ true = shown_from R d n h e in
-          subst (All OfShown) (sym (nest_drawn (owning R) d l n (state_of R d s₀ n) e))
+          subst (AllByRecursion OfShown) (sym (nest_drawn (owning R) d l n (state_of R d s₀ n) e))
           (all_within OfShown n 0 (groups_at R d n (state_of R d s₀ n)) (content (owning R) d l n (state_of R d s₀ n))
           (λ g q. ap (shown R d) q ∙ sh)
           (elim (cases_Bool (leaf_at R d n)) [
-            | inl f ↦ subst (All OfShown) (sym (cond-true (leaf_at (owning R) d n) _ _ f)) (sh, tt)
-            | inr f ↦ subst (All OfShown) (sym (cond-false (leaf_at (owning R) d n) _ _ f))
+            | inl f ↦ subst (AllByRecursion OfShown) (sym (cond-true (leaf_at (owning R) d n) _ _ f)) (sh, tt)
+            | inr f ↦ subst (AllByRecursion OfShown) (sym (cond-false (leaf_at (owning R) d n) _ _ f))
                 (all_joined OfShown (Child d n) (λ k. nest (owning R) d l k (inside_at R d n (state_of R d s₀ n))) (children d n) (children_are d n)
-                (λ k c. subst (λ (u : State). All OfShown (nest (owning R) d l k u)) (state_child R d L tree s₀ n k c)
+                (λ k c. subst (λ (u : State). AllByRecursion OfShown (nest (owning R) d l k u)) (state_child R d L tree s₀ n k c)
                 (nest_of_shown l k (drawn_child R d L tree n k c ∙ sh))))
           ])
           tt)
@@ -301,7 +301,7 @@ module _ {Group Mark : Type 0} (n : ℕ) where
   groups_of_append : (s t : Script (Owned Group) (Owned Mark)) → groups_of (s ++ t) ≡ groups_of s ++ groups_of t
   groups_of_append s t = ap (filter (λ g. eqb g.node n)) (groups_append s t) ∙ filter-append (λ g. eqb g.node n) (groups_opened s) (groups_opened t)
 
-  no_groups_of : (P : Event (Owned Group) (Owned Mark) → Type 0) → ((g : Owned Group) → P (opened g) → g.node ≡ n → ⊥) → (s : Script (Owned Group) (Owned Mark)) → All P s → groups_of s ≡ []
+  no_groups_of : (P : Event (Owned Group) (Owned Mark) → Type 0) → ((g : Owned Group) → P (opened g) → g.node ≡ n → ⊥) → (s : Script (Owned Group) (Owned Mark)) → AllByRecursion P s → groups_of s ≡ []
   no_groups_of P h [] a = refl
   no_groups_of P h (opened g ∷ s) a = cond-false (eqb g.node n) _ _ (ne_eqb g.node n (h g a.0)) ∙ no_groups_of P h s a.1
   no_groups_of P h (marked m ∷ s) a = no_groups_of P h s a.1
@@ -313,7 +313,7 @@ module _ {Item State Group Mark : Type 0} (R : Rules Item State Group Mark) (d :
   once_shown n h sh =
       let t : Stretch d n (own_groups R d s₀ n) (nest (owning R) d L 0 s₀) = stretch_of R d L tree bare s₀ n h sh in
       let gs : List (Owned Group) = own_groups R d s₀ n in
-      let off : (s : Script (Owned Group) (Owned Mark)) → All (Outside d n) s → groups_of n s ≡ [] =
+      let off : (s : Script (Owned Group) (Owned Mark)) → AllByRecursion (Outside d n) s → groups_of n s ≡ [] =
       no_groups_of n (Outside d n) (λ g o e. o (subst (λ (m : ℕ). In n (path d m)) (sym e) (self_in d n))) in
       let between : groups_of n t.between ≡ [] =
       no_groups_of n (Inside d n) (λ g i e. let lt : n < n = above_lt d L tree n n h (subst (λ (m : ℕ). In n (above d m)) e i) in omega arith) t.between t.inside in
@@ -329,7 +329,7 @@ module _ {Item State Group Mark : Type 0} (R : Rules Item State Group Mark) (d :
       ∙ (λ i. mid i ++ off t.after t.outside_after i)
       ∙ append-nil gs
 
-  root_shown : All (OfShown R d L tree bare s₀) (nest (owning R) d L 0 s₀)
+  root_shown : AllByRecursion (OfShown R d L tree bare s₀) (nest (owning R) d L 0 s₀)
   unfolding climb
   root_shown = nest_of_shown R d L tree bare s₀ L 0 refl
 

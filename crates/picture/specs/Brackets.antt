@@ -1,7 +1,7 @@
 -- In words: each shown node has one stretch of the script, in which its groups stand around all that it holds.
 use Rattle.std.specs.Prelude.{◌≡◌, ℕ, ◌+◌, ◌<◌, true, cond, List, [], ◌∷◌, ◌++◌, map, filter, nat_eq}
 use mathlib.Core.List.{Memᴰ}
-use Rattle.std.specs.List.{AllByRecursion as All}
+use Rattle.std.specs.List.{AllByRecursion}
 use Rattle.picture.specs.Script.{Event, Script, rewrite, within, Balanced, groups_opened}
 use Rattle.picture.specs.Script.Event.{opened, marked, closed}
 use Rattle.picture.specs.Nodes.{Nodes, above, path, Tree}
@@ -56,9 +56,9 @@ pub record Stretch {Item Group Mark : Type 0} (d : Nodes Item) (n : ℕ) (gs : L
   pub after : Script (Owned Group) (Owned Mark)
   pub splits : s ≡ before ++ (within gs between ++ after)
   pub balanced : Balanced between
-  pub inside : All (Inside d n) between
-  pub outside_before : All (Outside d n) before
-  pub outside_after : All (Outside d n) after
+  pub inside : AllByRecursion (Inside d n) between
+  pub outside_before : AllByRecursion (Outside d n) before
+  pub outside_after : AllByRecursion (Outside d n) after
 
 module _ {Item State Group Mark : Type 0} (R : Rules Item State Group Mark) (d : Nodes Item) where
   -- the groups of node n, where s is the state outside the root

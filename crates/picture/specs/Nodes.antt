@@ -1,6 +1,6 @@
 -- Nodes by number, with the paths and the order that their parents give.
 use Rattle.std.specs.Prelude.{◌≡◌, ℕ, zero, suc, ◌-◌, ◌<◌, cond, List, [], ◌∷◌, ◌++◌, length, Some, None, filter, Option, ◌==◌, nat_eq}
-use Rattle.std.specs.List.{flat_map, range_with_len, AllByRecursion as All}
+use Rattle.std.specs.List.{flat_map, range_with_len, AllByRecursion}
 
 -- so many nodes, the root being node 0: the item of each, and the parent of each other than the root
 pub record Nodes (Item : Type 0) : Type 0 where
@@ -55,6 +55,6 @@ module _ {Item : Type 0} (d : Nodes Item) where
 abbrev pub OrderHasEachNodeOnce : (Item : Type 0) → Type 0
 OrderHasEachNodeOnce Item =
     (d : Nodes Item) (l : ℕ) → Tree d l →
-    All (λ m. m < d.count) (order d l 0)
+    AllByRecursion (λ m. m < d.count) (order d l 0)
     × ((n : ℕ) → n < d.count → filter (λ m. nat_eq m n) (order d l 0) ≡ n ∷ [])
     × (length (order d l 0) ≡ d.count)

@@ -1,6 +1,8 @@
 //! What a script shows: the picture of its marks and the outline of its groups, for any groups and marks; and what documents show by any rules.
 //! Each function here stands for a law: its contract is the law, for every script and every document, and its answer says nothing.
 
+#![tactic(auto)]
+
 ghost use Rattle.picture.specs.Script.{BalanceIsCounted, GroupsTakeTwoEventsMarksOne};
 ghost use Rattle.picture.specs.Picture.{PictureHasEachMarkOnce};
 ghost use Rattle.picture.specs.Outline.{OutlineTellsTheScript, PictureIsInTheOutline};

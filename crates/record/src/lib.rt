@@ -1,5 +1,7 @@
 //! The records of a picture: a group opens, a mark stands, a group closes.
 
+#![tactic(auto)]
+
 ghost use Rattle.std.specs.Prelude.{◌≡◌};
 ghost use Rattle.record.specs.Good.{good_clip, good_opacity, good_group, good_mark, good_record};
 

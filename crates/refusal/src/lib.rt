@@ -1,5 +1,7 @@
 //! Every refusal that a call of this project can answer, with its number and plain words.
 
+#![tactic(auto)]
+
 ghost use Rattle.std.specs.Prelude.{◌≡◌, Some};
 ghost use Rattle.refusal.specs.Numbers.{number_of};
 ghost use Rattle.refusal.specs.Order.{first_of};

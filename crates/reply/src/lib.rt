@@ -1,5 +1,7 @@
 //! What commands answer, and how answers are written for programs and for people.
 
+#![tactic(auto)]
+
 mod answer;
 mod bits;
 mod reply;

@@ -1,5 +1,7 @@
 //! Doing commands on a document.
 
+#![tactic(auto)]
+
 ghost use Rattle.std.specs.Prelude.{◌≡◌, None};
 ghost use Rattle.svgtree.specs.Steps.{new_step};
 ghost use Rattle.session.specs.State.{state_of, Sound};

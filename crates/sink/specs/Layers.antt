@@ -1,7 +1,7 @@
 -- What a layer over a sink means, by what the sink below means.
 use Rattle.std.specs.Prelude.{◌≡◌, true, false, List, [], ◌∷◌, ◌++◌, Some, None, refl}
 use Rattle.std.proofs.Common.{◌∙◌}
-use Rattle.std.specs.List.{AllByRecursion as All}
+use Rattle.std.specs.List.{AllByRecursion}
 use Rattle.geom.specs.declared.matrix.Matrix.{Matrix}
 use Rattle.geom.specs.declared.rect.Rect.{Rect}
 use Rattle.geom.specs.F32.{whole}
@@ -43,7 +43,7 @@ place_group matrix = record { id = 0; matrix = matrix; clip = None; opacity = wh
 abbrev pub window_group : Rect → Group
 window_group clip = record { id = 0; matrix = identity; clip = Some clip; opacity = whole 1 }
 
-pub all_push : (gs : List Group) (g : Group) → All (λ h. good_group h ≡ true) gs → good_group g ≡ true → All (λ h. good_group h ≡ true) (gs ++ g ∷ [])
+pub all_push : (gs : List Group) (g : Group) → AllByRecursion (λ h. good_group h ≡ true) gs → good_group g ≡ true → AllByRecursion (λ h. good_group h ≡ true) (gs ++ g ∷ [])
 all_push [] g all-good is_good = (is_good, tt)
 all_push (h ∷ gs) g all-good is_good = (all-good.0, all_push gs g all-good.1 is_good)
 

@@ -1,7 +1,7 @@
 -- What a sink means.
 use Rattle.std.specs.Prelude.{◌≡◌, ℕ, min, Bool, true, List, [], ℤ, pos, negsuc, int_le, int_lt, refl}
 use Rattle.std.proofs.Math.Nat.{min-le_right}
-use Rattle.std.specs.List.{AllByRecursion as All}
+use Rattle.std.specs.List.{AllByRecursion}
 use Rattle.std.proofs.lemmas.Bool.{le-leb}
 use Rattle.record.specs.declared.Group.{Group}
 use Rattle.record.specs.declared.Record.{Record}
@@ -36,7 +36,7 @@ exceeds n limit = int_lt limit.number (pos n)
 -- The groups that a sink opens itself, from the outside in. All are good.
 pub record Base : Type 0 where
   pub groups : List Group
-  pub good : All (λ g. good_group g ≡ true) groups
+  pub good : AllByRecursion (λ g. good_group g ≡ true) groups
 
 -- What a sink makes of the groups that it is given: of a good one a good one.
 pub record Rewriting : Type 0 where

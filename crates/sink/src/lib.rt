@@ -1,5 +1,7 @@
 //! A sink takes the records of a picture one by one. A layer is a sink over a sink.
 
+#![tactic(auto)]
+
 ghost use Rattle.std.specs.Prelude.{◌≡◌, length};
 ghost use Rattle.std.specs.Option.{option_map};
 ghost use Rattle.std.specs.List.{slice_get};

@@ -1,5 +1,7 @@
 //! Tests of sinks, over a sink that keeps its records in a vector.
 
+#![tactic(auto)]
+
 mod notebook;
 
 pub use notebook::Notebook;

@@ -1,5 +1,7 @@
 //! The document: nodes by number in memory that the caller lends, and the calls that make and edit it.
 
+#![tactic(auto)]
+
 mod allowed;
 mod calls;
 mod document;

@@ -1,7 +1,7 @@
 use Rattle.std.proofs.Common.{Some, vec_items, arith, rules}
 use Rattle.group_table.proofs.Steps.{closed, some_open, none_inside}
 use Rattle.group_table.proofs.Calls.{close_none, close_done}
-use Rattle.group_table.proofs.table.sink.GroupTableSink.close.Goals as goal
+use Rattle.group_table.proofs.table.calls.GroupTableSink.close.Goals as goal
 
 pub returns-in_default : goal.returns-in_default
 returns-in_default c =

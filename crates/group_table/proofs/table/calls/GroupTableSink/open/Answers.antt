@@ -3,7 +3,7 @@ use Rattle.record.specs.declared.Record.TheVariants as variants
 use Rattle.group_table.specs.declared.entry.Item.TheVariants.{Opened}
 use Rattle.group_table.proofs.Steps.{opened, parent_within, last_within}
 use Rattle.group_table.proofs.Calls.{open_full, open_done}
-use Rattle.group_table.proofs.table.sink.GroupTableSink.open.Goals as goal
+use Rattle.group_table.proofs.table.calls.GroupTableSink.open.Goals as goal
 
 pub returns-then-places_left-lt-OPEN_PLACES : goal.returns-then-places_left-lt-OPEN_PLACES
 returns-then-places_left-lt-OPEN_PLACES c =

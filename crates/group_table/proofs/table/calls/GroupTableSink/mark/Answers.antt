@@ -3,7 +3,7 @@ use Rattle.record.specs.declared.Record.TheVariants as variants
 use Rattle.group_table.specs.declared.entry.Item.TheVariants.{Marked}
 use Rattle.group_table.proofs.Steps.{marked, parent_within, last_within}
 use Rattle.group_table.proofs.Calls.{mark_full, mark_done}
-use Rattle.group_table.proofs.table.sink.GroupTableSink.mark.Goals as goal
+use Rattle.group_table.proofs.table.calls.GroupTableSink.mark.Goals as goal
 
 pub returns-then-places_left-lt-MARK_PLACES : goal.returns-then-places_left-lt-MARK_PLACES
 returns-then-places_left-lt-MARK_PLACES c =

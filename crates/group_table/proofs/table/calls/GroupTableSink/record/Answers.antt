@@ -3,7 +3,7 @@ use Rattle.std.specs.Option.{option_map}
 use Rattle.record.specs.Zero.{zeroed_record}
 use Rattle.record.specs.declared.Record.{Record}
 use Rattle.group_table.proofs.Reading.{record_past, record_read, sound_read}
-use Rattle.group_table.proofs.table.sink.GroupTableSink.record.Goals as goal
+use Rattle.group_table.proofs.table.calls.GroupTableSink.record.Goals as goal
 
 pub returns-in_err-read : goal.returns-in_err-read
 returns-in_err-read c = ap (option_map zeroed_record) c.from_residual.ensures ∙ record_past c.args.self.now c.args.n (sym c.read.ensures ∙ c.in_err-read.was)
