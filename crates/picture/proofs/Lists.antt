@@ -3,7 +3,7 @@ use Rattle.std.proofs.Common.{◌≡◌, ℕ, zero, suc, Bool, List, [], ◌∷�
 use Rattle.std.specs.List.{flat_map, AllByRecursion}
 use Rattle.std.proofs.lemmas.List.{map-append}
 use Rattle.std.proofs.lemmas.List.Elements.{filter-append}
-use Rattle.std.proofs.ByRecursion.{AllByRecursion-append}
+use Rattle.std.proofs.ByRecursion.{All-append}
 use Rattle.std.proofs.lemmas.Bool.{cases_Bool, cond-true, cond-false}
 use Rattle.picture.specs.Picture.{front}
 
@@ -68,7 +68,7 @@ all_right P (x ∷ xs) ys a = all_right P xs ys a.1
 
 pub all_joined : {X A : Type 0} (P : A → Type 0) (Q : X → Type 0) (f : X → List A) (xs : List X) → AllByRecursion Q xs → ((x : X) → Q x → AllByRecursion P (f x)) → AllByRecursion P (flat_map f xs)
 all_joined P Q f [] a h = tt
-all_joined P Q f (x ∷ xs) a h = AllByRecursion-append P (f x) (flat_map f xs) (h x a.0) (all_joined P Q f xs a.1 h)
+all_joined P Q f (x ∷ xs) a h = All-append P (f x) (flat_map f xs) (h x a.0) (all_joined P Q f xs a.1 h)
 
 pub front_push : {A : Type 0} (xs : List A) (x : A) → front (xs ++ x ∷ []) ≡ xs
 front_push [] x = refl

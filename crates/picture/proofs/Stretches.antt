@@ -4,7 +4,7 @@ use mathlib.Core.List.Memᴰ
 use Rattle.std.specs.List.{flat_map, AllByRecursion}
 use Rattle.std.proofs.lemmas.List.{length_push}
 use Rattle.std.proofs.lemmas.List.Elements.{filter-append}
-use Rattle.std.proofs.ByRecursion.{AllByRecursion-append, AllByRecursion-weaker}
+use Rattle.std.proofs.ByRecursion.{All-append, All-weaker}
 use Rattle.std.proofs.lemmas.Bool.{cases_Bool, cases_eq, cond-true, cond-false, both_ways, eq-eqb, ne_eqb}
 use Rattle.picture.specs.Script.{Event, Script, rewrite, within, groups_opened}
 use Rattle.picture.specs.Script.Event.{opened, marked, closed}
@@ -62,8 +62,8 @@ module _ {Group Mark : Type 0} (P : Event (Owned Group) (Owned Mark) → Type 0)
 
   all_within : (n i : ℕ) (gs : List Group) (s : Script (Owned Group) (Owned Mark)) → ((g : Owned Group) → g.node ≡ n → P (opened g)) → AllByRecursion P s → P closed → AllByRecursion P (within (owned_by n i gs) s)
   all_within n i gs s h a c =
-      AllByRecursion-append P (map opened (owned_by n i gs) ++ s) (replicate (length (owned_by n i gs)) closed)
-      (AllByRecursion-append P (map opened (owned_by n i gs)) s (all_opens n i gs h) a) (all_closes (length (owned_by n i gs)) c)
+      All-append P (map opened (owned_by n i gs) ++ s) (replicate (length (owned_by n i gs)) closed)
+      (All-append P (map opened (owned_by n i gs)) s (all_opens n i gs h) a) (all_closes (length (owned_by n i gs)) c)
 
 module _ {Item State Group Mark : Type 0} (R : Rules Item State Group Mark) (d : Nodes Item) (L : ℕ) (tree : Tree d L) (bare : BareLeaves R d) where
   -- an event of a node of which P holds
@@ -105,7 +105,7 @@ module _ {Item State Group Mark : Type 0} (R : Rules Item State Group Mark) (d :
     | inl e ↦ subst (AllByRecursion (Held n)) (sym (cond-true (leaf_at (owning R) d n) _ _ e)) ((self_in d n, h), tt)
     | inr e ↦ subst (AllByRecursion (Held n)) (sym (cond-false (leaf_at (owning R) d n) _ _ e))
         (all_joined (Held n) (Child d n) (λ k. nest (owning R) d l k (inside_at R d n s)) (children d n) (children_are d n)
-        (λ k c. AllByRecursion-weaker (About (Of k)) (Held n) (held_from_child n k c) (nest (owning R) d l k (inside_at R d n s)) (ih k (inside_at R d n s) c.high)))
+        (λ k c. All-weaker (About (Of k)) (Held n) (held_from_child n k c) (nest (owning R) d l k (inside_at R d n s)) (ih k (inside_at R d n s) c.high)))
   ]
 
   -- the nest of a node has events of it and of nodes below it
@@ -116,7 +116,7 @@ module _ {Item State Group Mark : Type 0} (R : Rules Item State Group Mark) (d :
     | inl e ↦ subst (AllByRecursion (About (Of n))) (sym (nest_drawn (owning R) d l n s e))
         (all_within (About (Of n)) n 0 (groups_at R d n s) (content (owning R) d l n s)
         (λ g q. let P : ℕ → Type 0 = Of n in subst P (sym q) (h, self_in d n))
-        (AllByRecursion-weaker (Held n) (About (Of n)) (of_from_held n) (content (owning R) d l n s) (held_content l n s h (λ k u g. of_nest l k u g)))
+        (All-weaker (Held n) (About (Of n)) (of_from_held n) (content (owning R) d l n s) (held_content l n s h (λ k u g. of_nest l k u g)))
         tt)
     | inr e ↦ subst (AllByRecursion (About (Of n))) (sym (nest_not_drawn (owning R) d l n s e)) tt
   ]
@@ -170,7 +170,7 @@ module _ {Item State Group Mark : Type 0} (R : Rules Item State Group Mark) (d :
       off_others : (l : ℕ) (u : State) (ks : List ℕ) → AllByRecursion (λ k. Child d p k × (k ≡ n → ⊥)) ks → AllByRecursion (About (Off n)) (flat_map (λ k. nest (owning R) d l k u) ks)
       off_others l u ks a =
           all_joined (About (Off n)) (λ k. Child d p k × (k ≡ n → ⊥)) (λ k. nest (owning R) d l k u) ks a
-          (λ k b. AllByRecursion-weaker (About (Of k)) (About (Off n)) (off_other k b.0 b.1) (nest (owning R) d l k u) (of_nest l k u b.0.high))
+          (λ k b. All-weaker (About (Of k)) (About (Off n)) (off_other k b.0 b.1) (nest (owning R) d l k u) (of_nest l k u b.0.high))
 
       off_opens : (u : State) → AllByRecursion (About (Off n)) (map opened (owned_by p 0 (groups_at R d p u)))
       off_opens u = all_opens (About (Off n)) p 0 (groups_at R d p u) (λ g e.
@@ -184,13 +184,13 @@ module _ {Item State Group Mark : Type 0} (R : Rules Item State Group Mark) (d :
       others_left : (t : Parted n (children d p)) → AllByRecursion (λ k. Child d p k × (k ≡ n → ⊥)) t.left
       others_left t =
           let ks : AllByRecursion (Child d p) (t.left ++ n ∷ t.right) = subst (AllByRecursion (Child d p)) t.is (children_are d p) in
-          AllByRecursion-weaker (λ k. Child d p k × (k < n)) (λ k. Child d p k × (k ≡ n → ⊥)) (λ k x. (x.0, λ y. omega (arith, x.1))) t.left
+          All-weaker (λ k. Child d p k × (k < n)) (λ k. Child d p k × (k ≡ n → ⊥)) (λ k x. (x.0, λ y. omega (arith, x.1))) t.left
           (all_both (Child d p) (λ k. k < n) t.left (all_left (Child d p) t.left (n ∷ t.right) ks) t.lefts)
 
       others_right : (t : Parted n (children d p)) → AllByRecursion (λ k. Child d p k × (k ≡ n → ⊥)) t.right
       others_right t =
           let ks : AllByRecursion (Child d p) (t.left ++ n ∷ t.right) = subst (AllByRecursion (Child d p)) t.is (children_are d p) in
-          AllByRecursion-weaker (λ k. Child d p k × (n < k)) (λ k. Child d p k × (k ≡ n → ⊥)) (λ k x. (x.0, λ y. omega (arith, x.1))) t.right
+          All-weaker (λ k. Child d p k × (n < k)) (λ k. Child d p k × (k ≡ n → ⊥)) (λ k x. (x.0, λ y. omega (arith, x.1))) t.right
           (all_both (Child d p) (λ k. n < k) t.right (all_right (Child d p) t.left (n ∷ t.right) ks).1 t.rights)
 
       deeper : length (above d n) ≡ length (above d p) + 1
@@ -225,11 +225,11 @@ module _ {Item State Group Mark : Type 0} (R : Rules Item State Group Mark) (d :
                 ∙ ap (λ (x : Script (Owned Group) (Owned Mark)). (before ++ (O ++ flat_map F t.left)) ++ (x ++ (flat_map F t.right ++ (C ++ after)))) st;
             room = omega arith;
             befores =
-                AllByRecursion-append (About (Off n)) before (O ++ flat_map F t.left) (AllByRecursion-weaker (About (Off p)) (About (Off n)) off_child before b)
-                (AllByRecursion-append (About (Off n)) O (flat_map F t.left) (off_opens u) (off_others (suc l) v t.left (others_left t)));
+                All-append (About (Off n)) before (O ++ flat_map F t.left) (All-weaker (About (Off p)) (About (Off n)) off_child before b)
+                (All-append (About (Off n)) O (flat_map F t.left) (off_opens u) (off_others (suc l) v t.left (others_left t)));
             afters =
-                AllByRecursion-append (About (Off n)) (flat_map F t.right) (C ++ after) (off_others (suc l) v t.right (others_right t))
-                (AllByRecursion-append (About (Off n)) C after (all_closes (About (Off n)) (length gs) tt) (AllByRecursion-weaker (About (Off p)) (About (Off n)) off_child after a));
+                All-append (About (Off n)) (flat_map F t.right) (C ++ after) (off_others (suc l) v t.right (others_right t))
+                (All-append (About (Off n)) C after (all_closes (About (Off n)) (length gs) tt) (All-weaker (About (Off p)) (About (Off n)) off_child after a));
           }
 
     found_by : (b n : ℕ) → n ≤ b → n < d.count → shown R d n ≡ true → Found n
@@ -258,9 +258,9 @@ module _ {Item State Group Mark : Type 0} (R : Rules Item State Group Mark) (d :
           after = f.after;
           splits = f.splits ∙ ap (λ (x : Script (Owned Group) (Owned Mark)). f.before ++ (x ++ f.after)) (nest_drawn (owning R) d f.l n s (shown_parts R d n sh).1);
           balanced = balanced_content (owning R) d f.l n s (balanced_nest (owning R) d f.l);
-          inside = AllByRecursion-weaker (Held n) (Inside d n) (λ r p. p.0) (content (owning R) d f.l n s) (held_content f.l n s h (of_nest f.l));
-          outside_before = AllByRecursion-weaker (About (Off n)) (Outside d n) (outside_from_off n) f.before f.befores;
-          outside_after = AllByRecursion-weaker (About (Off n)) (Outside d n) (outside_from_off n) f.after f.afters;
+          inside = All-weaker (Held n) (Inside d n) (λ r p. p.0) (content (owning R) d f.l n s) (held_content f.l n s h (of_nest f.l));
+          outside_before = All-weaker (About (Off n)) (Outside d n) (outside_from_off n) f.before f.befores;
+          outside_after = All-weaker (About (Off n)) (Outside d n) (outside_from_off n) f.after f.afters;
         }
 
     -- all is of shown nodes
