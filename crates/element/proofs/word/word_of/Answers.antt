@@ -13,4 +13,4 @@ other_text xs ys h = not_so (bytes_eq xs ys) (λ t. h ((bytes_eq-Decides xs ys).
 pub returns-in_default : goal.returns-in_default
 returns-in_default c =
     let text = c.args.text.now in
-    rw (other_text text (codes "yes") c.in_default.not_yes, other_text text (codes "no") c.in_default.not-no, other_text text (codes "visible") c.in_default.not-visible, other_text text (codes "auto") c.in_default.not-auto) refl
+    rw (other_text text (codes "yes") c.in_default.not-yes, other_text text (codes "no") c.in_default.not-no, other_text text (codes "visible") c.in_default.not-visible, other_text text (codes "auto") c.in_default.not-auto) refl
