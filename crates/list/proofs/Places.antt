@@ -1,7 +1,6 @@
 -- Laws of a search by number.
 use Rattle.std.proofs.Common.{◌≡◌, ℕ, zero, suc, ◌<◌, min, eqb, List, [], ◌∷◌, length, get_or, IsSomeAnd, Some, None, Option, sym, refl, ap, ◌∙◌, subst, inl, inr, arith}
 use Rattle.std.specs.Option.{option_map}
-use Rattle.std.specs.List.{slice_get}
 use Rattle.std.proofs.lemmas.Bool.{cases_lt, eq-eqb, ne_eqb, cond-true, cond-false}
 use Rattle.list.specs.Bounded.{used}
 use Rattle.list.specs.Places.{place_of, Has, Found}

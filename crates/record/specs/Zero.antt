@@ -1,5 +1,5 @@
 -- Floats that compare equal are one value in a script: a zero has no sign there.
-use Rattle.std.specs.Prelude.{ℕ, zero, suc, false, Some, None, Option, Float}
+use Rattle.std.specs.Prelude.{zero, suc, false, Some, None, Option, Float}
 use Rattle.std.specs.Float.{nan, inf, fin}
 use Rattle.geom.specs.declared.matrix.Matrix.{Matrix}
 use Rattle.geom.specs.declared.rect.Rect.{Rect}
