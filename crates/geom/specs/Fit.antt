@@ -3,7 +3,6 @@ use Rattle.std.specs.Prelude.{Bool, true, false, cond, Float}
 use Rattle.std.specs.Float.Ieee.{lt, neg}
 use Rattle.geom.specs.F32.{◌+f◌, ◌-f◌, ◌*f◌, ◌/f◌, whole}
 use Rattle.geom.specs.declared.matrix.Matrix.{Matrix}
-use Rattle.geom.specs.declared.rect.Rect.{Rect}
 use Rattle.geom.specs.declared.rect.Size.{Size}
 use Rattle.geom.specs.declared.view_box.Align.{Align}
 use Rattle.geom.specs.declared.view_box.Align.TheVariants.{None, XMinYMin, XMidYMin, XMaxYMin, XMinYMid, XMidYMid, XMaxYMid, XMinYMax, XMidYMax, XMaxYMax}

@@ -1,5 +1,5 @@
 -- The size of the root element, and when it has none.
-use Rattle.std.specs.Prelude.{Bool, true, false, cond, not, ◌&&◌, ◌||◌, List, [], ◌∷◌, is_some, Option, Result, Float}
+use Rattle.std.specs.Prelude.{Bool, true, false, cond, not, ◌&&◌, ◌||◌, [], ◌∷◌, is_some, Option, Result, Float}
 use Rattle.std.specs.Option.{unwrap_or}
 use Rattle.std.specs.declared.option.Option.TheVariants as option
 use Rattle.refusal.specs.declared.Refusal.{Refusal}

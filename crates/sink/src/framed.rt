@@ -24,7 +24,7 @@ pub struct NotFramed<S> {
 impl<S: Sink> Framed<S> {
     /// The layer that adds the matrix, over a sink, which is cleared.
     pub fn place(sink: S, matrix: Matrix) -> Result<Framed<S>, NotFramed<S>>
-        ensures { MatchResult result (λ layer. Made (meaning sink) (place_group matrix) layer.group (meaning layer.below)) (λ kept. HandedBack sink (place_group matrix) kept.below kept.fault) }
+        ensures { MatchResult result (λ layer. Made (S.meaning sink) (place_group matrix) layer.group (S.meaning layer.below)) (λ kept. HandedBack sink (place_group matrix) kept.below kept.fault) }
     {
         Framed::over(
             sink,
@@ -39,7 +39,7 @@ impl<S: Sink> Framed<S> {
 
     /// The layer that adds the clip, over a sink, which is cleared.
     pub fn window(sink: S, clip: Rect) -> Result<Framed<S>, NotFramed<S>>
-        ensures { MatchResult result (λ layer. Made (meaning sink) (window_group clip) layer.group (meaning layer.below)) (λ kept. HandedBack sink (window_group clip) kept.below kept.fault) }
+        ensures { MatchResult result (λ layer. Made (S.meaning sink) (window_group clip) layer.group (S.meaning layer.below)) (λ kept. HandedBack sink (window_group clip) kept.below kept.fault) }
     {
         Framed::over(
             sink,
@@ -53,7 +53,7 @@ impl<S: Sink> Framed<S> {
     }
 
     fn over(mut sink: S, group: Group) -> Result<Framed<S>, NotFramed<S>>
-        ensures { MatchResult result (λ layer. Made (meaning sink) group layer.group (meaning layer.below)) (λ kept. HandedBack sink group kept.below kept.fault) }
+        ensures { MatchResult result (λ layer. Made (S.meaning sink) group layer.group (S.meaning layer.below)) (λ kept. HandedBack sink group kept.below kept.fault) }
     {
         if !group.is_good() {
             return Err(NotFramed {

@@ -14,7 +14,7 @@ pub struct Strip<S> {
 impl<S: Sink> Strip<S> {
     /// The layer over a sink, which is cleared.
     pub fn new(mut sink: S) -> Strip<S>
-        ensures { meaning result.below ≡ cleared (meaning sink) }
+        ensures { S.meaning result.below ≡ cleared (S.meaning sink) }
     {
         sink.clear();
         Strip { below: sink }

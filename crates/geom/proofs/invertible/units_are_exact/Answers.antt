@@ -1,5 +1,5 @@
-use Rattle.std.proofs.Common.{◌≡◌, ℕ, true, false, eqb, ℤ, pos, negsuc, sym, refl, ap, arith, eq-eqb, eqb-true}
-use Rattle.geom.specs.Invertible.{same, SameIsEquality}
+use Rattle.std.proofs.Common.{◌≡◌, ℕ, true, false, pos, negsuc, ap, arith, eq-eqb, eqb-true}
+use Rattle.geom.specs.Invertible.{SameIsEquality}
 use Rattle.geom.proofs.Units.{units_exact}
 use Rattle.geom.proofs.invertible.units_are_exact.Goals as goal
 

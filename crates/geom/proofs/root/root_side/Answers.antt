@@ -1,6 +1,4 @@
-use Rattle.std.proofs.Common.{sym, ap, ◌∙◌}
 use Rattle.geom.specs.Root.{root_side}
-use Rattle.std.proofs.lemmas.Bool.{cond-true, cond-false}
 use Rattle.geom.specs.Length.{base_of}
 use Rattle.geom.proofs.Constants.{zero_is}
 use Rattle.geom.proofs.root.root_side.Goals as goal

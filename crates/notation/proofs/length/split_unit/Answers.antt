@@ -34,7 +34,7 @@ pub returns-in_default-split_at_checked : goal.returns-in_default-split_at_check
 returns-in_default-split_at_checked c =
     let text = c.args.text.now in
     let lacks = lacks_so text _ c.in_default.is (strip_suffix_char 37 text _ c.strip_suffix.ensures.cases (omega arith)) in
-    let apart = subst (λ (n : ℕ). IsCharBoundary text n → ⊥) c.saturating_sub.ensures c.in_default-split_at_checked.ensures.cases in
+    let apart = subst (λ (n : ℕ). IsCharBoundary text n → ⊥) c.saturating_sub.ensures (λ b. absurd (c.in_default-split_at_checked.ensures.variant.1 b)) in
     let p = by_name text None lacks (no_name text (length text - 2) (omega arith) apart) in
     record { number = sym (ap (λ q. q.0) p); unit = sym (ap (λ q. q.1) p) }
 
@@ -42,16 +42,16 @@ pub returns-in-Some-unit_of : goal.returns-in-Some-unit_of
 returns-in-Some-unit_of c =
     let text = c.args.text.now in
     let lacks = lacks_so text _ c.in_default.is (strip_suffix_char 37 text _ c.strip_suffix.ensures.cases (omega arith)) in
-    let cut = c.in-Some-split_at_checked.ensures.cases in
+    let cut = c.in-Some-split_at_checked.ensures in
     let at = c.saturating_sub.ensures in
-    let p = by_name text _ lacks (sym (c.unit_of.ensures ∙ ap (named units) (cut.1 ∙ ap (λ n. drop n text) at)) ∙ c.in-Some-unit_of.is) in
-    record { number = cut.0 ∙ ap (λ n. take n text) at ∙ sym (ap (λ q. q.0) p); unit = sym (ap (λ q. q.1) p) }
+    let p = by_name text _ lacks (sym (c.unit_of.ensures ∙ ap (named units) (cut.back ∙ ap (λ n. drop n text) at)) ∙ c.in-Some-unit_of.is) in
+    record { number = cut.front ∙ ap (λ n. take n text) at ∙ sym (ap (λ q. q.0) p); unit = sym (ap (λ q. q.1) p) }
 
 pub returns-in-None : goal.returns-in-None
 returns-in-None c =
     let text = c.args.text.now in
     let lacks = lacks_so text _ c.in_default.is (strip_suffix_char 37 text _ c.strip_suffix.ensures.cases (omega arith)) in
-    let cut = c.in-Some-split_at_checked.ensures.cases in
+    let cut = c.in-Some-split_at_checked.ensures in
     let at = c.saturating_sub.ensures in
-    let p = by_name text _ lacks (sym (c.unit_of.ensures ∙ ap (named units) (cut.1 ∙ ap (λ n. drop n text) at)) ∙ c.in-None.is) in
+    let p = by_name text _ lacks (sym (c.unit_of.ensures ∙ ap (named units) (cut.back ∙ ap (λ n. drop n text) at)) ∙ c.in-None.is) in
     record { number = sym (ap (λ q. q.0) p); unit = sym (ap (λ q. q.1) p) }

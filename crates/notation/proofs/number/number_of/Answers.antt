@@ -6,4 +6,4 @@ use Rattle.notation.proofs.number.number_of.Goals as goal
 pub returns : goal.returns
 returns c =
     let text = c.args.text.now in
-    subst (λ o. MatchOption o (a_number text ≡ false) (λ x. Number text x)) (sym c.ok.ensures.value) (number_read text c.parse.result c.parse.ensures.value)
+    subst (λ o. MatchOption o (a_number text ≡ false) (λ x. Number text x)) (sym c.ok.ensures.value) (number_read text c.parse.result c.parse.ensures.value.0)
