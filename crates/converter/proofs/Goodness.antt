@@ -1,5 +1,5 @@
 -- Every group that a rule gives is good.
-use Rattle.std.proofs.Common.{◌≡◌, ℕ, Bool, true, false, cond, ◌&&◌, ◌||◌, Some, None, Option, sym, refl, ap, ◌∙◌}
+use Rattle.std.proofs.Common.{◌≡◌, ℕ, Bool, true, false, cond, ◌&&◌, ◌||◌, Some, None, Option, refl}
 use lib.Count.{count_trailing_zeros}
 use lib.Ieee.{Float, le, lt, eq, round, odd, units, size, span, climb}
 use Rattle.std.specs.Float.{float_is_finite}
@@ -13,14 +13,14 @@ use Rattle.geom.specs.declared.rect.Rect.{Rect}
 use Rattle.geom.specs.declared.rect.Ruler.{Ruler}
 use Rattle.geom.specs.declared.rect.Size.{Size}
 use Rattle.record.specs.Good.{good_group, good_clip, good_opacity}
-use Rattle.element.specs.Attributes.{length_of, matrix_of, opacity_of, id_of, view_box_of, aspect_of, overflows}
+use Rattle.element.specs.Attributes.{length_of, matrix_of, opacity_of, id_of, view_box_of, aspect_of}
 use Rattle.element.specs.declared.element.Element.{Element}
 use Rattle.element.specs.declared.value.Attribute.TheVariants.{X, Y}
 use Rattle.element.specs.declared.value.Role.{Role}
 use Rattle.converter.specs.Rectangle.{position, resolved_rect, placing, viewport}
 use Rattle.converter.specs.Clip.{both_set, from_use, keeps_in, svg_clip, symbol_clip}
 use Rattle.converter.specs.Groups.{group, clip_group, spare}
-use Rattle.converter.specs.Rules.{svg_groups, finite_placing, use_symbol_groups, use_size, finite_or_none, convert_svg, convert_use_symbol, convert_use_other, convert_symbol, convert_leaf, convert_g, root_fit, root_group, root_viewport, convert_root}
+use Rattle.converter.specs.Rules.{svg_groups, finite_placing, use_symbol_groups, convert_svg, convert_use_symbol, convert_use_other, convert_symbol, convert_leaf, convert_g, root_fit, root_group, convert_root}
 use Rattle.converter.specs.State.{ruled, sized, framed}
 use Rattle.converter.specs.Laws.{Accepted, Good, AllGood}
 use Rattle.converter.specs.declared.state.State.{State}

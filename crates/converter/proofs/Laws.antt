@@ -1,15 +1,12 @@
 -- The laws of groups, from the rules.
-use Rattle.std.proofs.Common.{◌≡◌, ℕ, Bool, true, false, cond, not, ◌&&◌, ◌||◌, ◌⊎◌, List, [], ◌∷◌, ◌++◌, is_some, Some, None, Ok, Err, Option, Result, sym, refl, ap, ◌∙◌, subst, inl, inr, arith}
+use Rattle.std.proofs.Common.{◌≡◌, ℕ, Bool, true, false, cond, not, ◌&&◌, ◌||◌, ◌⊎◌, List, [], ◌∷◌, is_some, Some, None, Option, sym, refl, ap, inl, inr, arith}
 use lib.Ieee.{Float}
-use Rattle.refusal.specs.declared.Refusal.{Refusal}
-use Rattle.geom.specs.Matrix.{identity, translation, product, finite_matrix, is_identity}
+use Rattle.geom.specs.Matrix.{translation, product, is_identity}
 use Rattle.geom.specs.Opacity.{plain}
-use Rattle.geom.specs.Size.{valid_rect, finite_rect}
+use Rattle.geom.specs.Size.{valid_rect}
 use Rattle.geom.specs.declared.matrix.Matrix.{Matrix}
 use Rattle.geom.specs.declared.rect.Rect.{Rect}
 use Rattle.geom.specs.declared.rect.Ruler.{Ruler}
-use Rattle.record.specs.Good.{good_group, good_clip, good_opacity}
-use Rattle.record.specs.declared.Group.{Group}
 use Rattle.element.specs.Attributes.{length_of, matrix_of, opacity_of, overflows, id_of, view_box_of, aspect_of}
 use Rattle.element.specs.declared.element.Element.{Element}
 use Rattle.element.specs.declared.value.Role.{Role}
@@ -18,9 +15,9 @@ use Rattle.element.specs.declared.value.Attribute.TheVariants.{X, Y, Width, Heig
 use Rattle.converter.specs.Rectangle.{position, resolved_rect, placing, viewport}
 use Rattle.converter.specs.Clip.{both_set, from_use, keeps_in, svg_clip, symbol_clip}
 use Rattle.converter.specs.Groups.{group, clip_group, spare, if_finite}
-use Rattle.converter.specs.Rules.{svg_groups, finite_placing, use_symbol_groups, convert_svg, convert_use_symbol, convert_use_other, convert_symbol, convert_leaf, convert_g}
-use Rattle.converter.specs.State.{ruled, sized, framed}
-use Rattle.converter.specs.Laws.{Accepted, listed, clip_of, clips, ClipsTo, KeptIn, Sized, SvgClips, SymbolClips, Has, OwnThenPlacing, OwnThenSymbol, Alone, Good, AllGood}
+use Rattle.converter.specs.Rules.{svg_groups, use_symbol_groups, convert_svg, convert_use_symbol, convert_use_other, convert_symbol, convert_leaf, convert_g}
+use Rattle.converter.specs.State.{ruled, framed}
+use Rattle.converter.specs.Laws.{Accepted, listed, clip_of, clips, ClipsTo, KeptIn, Sized, SvgClips, SymbolClips, Has, OwnThenPlacing, OwnThenSymbol, Alone}
 use Rattle.converter.specs.declared.state.State.{State}
 use Rattle.converter.specs.declared.rules.Converted.{Converted}
 

@@ -1,15 +1,14 @@
 -- Groups, spare groups, and what a rule gives.
-use Rattle.std.specs.Prelude.{ℕ, Bool, cond, not, ◌&&◌, List, [], ◌∷◌, Some, None, Option, Result, Float}
+use Rattle.std.specs.Prelude.{ℕ, Bool, cond, not, ◌&&◌, [], ◌∷◌, Some, None, Option, Result, Float}
 use Rattle.refusal.specs.Order.{first_of, unless}
 use Rattle.refusal.specs.declared.Refusal.{Refusal}
 use Rattle.refusal.specs.declared.Refusal.TheVariants.{NotFinite}
 use Rattle.geom.specs.F32.{whole}
-use Rattle.geom.specs.Matrix.{identity, is_identity}
+use Rattle.geom.specs.Matrix.{is_identity}
 use Rattle.geom.specs.Opacity.{plain}
 use Rattle.geom.specs.declared.matrix.Matrix.{Matrix}
 use Rattle.geom.specs.declared.rect.Rect.{Rect}
 use Rattle.record.specs.declared.Group.{Group}
-use Rattle.converter.specs.declared.state.State.{State}
 use Rattle.converter.specs.declared.rules.Converted.{Converted}
 
 -- a group without clip

@@ -1,5 +1,5 @@
 -- What holds of the groups that the rules give, in the words of the subject.
-use Rattle.std.specs.Prelude.{◌≡◌, Bool, true, false, ◌⊎◌, List, [], ◌∷◌, ◌++◌, is_some, Some, None, Ok, Err, Option, Result, ◌≢◌}
+use Rattle.std.specs.Prelude.{◌≡◌, true, false, ◌⊎◌, List, [], ◌∷◌, ◌++◌, is_some, Some, None, Ok, Err, Option, Result, ◌≢◌}
 use Rattle.refusal.specs.declared.Refusal.{Refusal}
 use Rattle.refusal.specs.declared.Refusal.TheVariants.{NotFinite}
 use Rattle.geom.specs.Matrix.{identity, translation, product, finite_matrix, is_identity}
@@ -9,7 +9,7 @@ use Rattle.geom.specs.declared.matrix.Matrix.{Matrix}
 use Rattle.geom.specs.declared.rect.Rect.{Rect}
 use Rattle.record.specs.Good.{good_group, good_opacity}
 use Rattle.record.specs.declared.Group.{Group}
-use Rattle.element.specs.Attributes.{length_of, matrix_of, opacity_of, overflows, view_box_of, aspect_of}
+use Rattle.element.specs.Attributes.{length_of, opacity_of, overflows, view_box_of, aspect_of}
 use Rattle.element.specs.declared.element.Element.{Element}
 use Rattle.element.specs.declared.value.Attribute.TheVariants.{X, Y, Width, Height}
 use Rattle.converter.specs.Rectangle.{position, resolved_rect, placing}

@@ -17,7 +17,6 @@ use Rattle.record.specs.declared.Group.{Group}
 use Rattle.element.specs.Attributes.{length_of, matrix_of, opacity_of, id_of, view_box_of, aspect_of}
 use Rattle.element.specs.declared.element.Element.{Element}
 use Rattle.element.specs.declared.value.Attribute.TheVariants.{X, Y, Width, Height}
-use Rattle.element.specs.declared.value.Kind.{Kind}
 use Rattle.element.specs.declared.value.Role.{Role}
 use Rattle.element.specs.declared.value.Role.TheVariants as role
 use Rattle.element.specs.Roles.{role_of}

@@ -1,5 +1,5 @@
 -- Worked examples of groups and clips, on the definitions that the contracts use; with those of lengths, root sizes, fits and opacities they are one theorem.
-use Rattle.std.specs.Prelude.{◌≡◌, ℕ, List, [], ◌∷◌, Some, None, Ok, Option}
+use Rattle.std.specs.Prelude.{◌≡◌, ℕ, [], ◌∷◌, Some, None, Ok, Option}
 use Rattle.geom.specs.F32.{whole}
 use Rattle.geom.specs.Matrix.{identity}
 use Rattle.geom.specs.Worked.{WorkedExamples, box, scaled}
@@ -11,10 +11,8 @@ use Rattle.element.specs.declared.value.Kind.TheVariants as kind
 use Rattle.element.specs.declared.value.Value.{Value}
 use Rattle.element.specs.declared.value.Value.TheVariants as form
 use Rattle.converter.specs.Groups.{group, clip_group}
-use Rattle.converter.specs.Laws.{clips}
 use Rattle.converter.specs.Rules.{convert_svg, convert_use_symbol, convert_symbol}
 use Rattle.converter.specs.State.{ruled, framed}
-use Rattle.converter.specs.declared.rules.Converted.{Converted}
 use Rattle.converter.specs.declared.state.State.{State}
 
 -- n user units, and n percent

@@ -50,8 +50,8 @@ fn at(stage: Stage, answer: Result<(), SinkFault>) -> Result<(), (Stage, SinkFau
 }
 
 fn put<S: Sink>(record: &Record, sink: &mut S) -> Result<(), SinkFault>
-    ensures answer { result ≡ (record_step (meaning sink.old) «record».now).result }
-    ensures after { meaning sink.new ≡ (record_step (meaning sink.old) «record».now).next }
+    ensures answer { result ≡ (record_step (S.meaning sink.old) «record».now).result }
+    ensures after { S.meaning sink.new ≡ (record_step (S.meaning sink.old) «record».now).next }
 {
     match record {
         Record::Open(group) => sink.open(*group),
@@ -61,8 +61,8 @@ fn put<S: Sink>(record: &Record, sink: &mut S) -> Result<(), SinkFault>
 }
 
 fn draw<S: Sink>(records: &[Record], sink: &mut S) -> Result<(), FeedFault>
-    ensures answer { result ≡ (fed (meaning sink.old) records.now).result }
-    ensures after { as_left result (meaning sink.new) ≡ (fed (meaning sink.old) records.now).next }
+    ensures answer { result ≡ (fed (S.meaning sink.old) records.now).result }
+    ensures after { as_left result (S.meaning sink.new) ≡ (fed (S.meaning sink.old) records.now).next }
 {
     at(Stage::Begin, sink.begin())?;
     for (i, record) in records.iter().enumerate() {
@@ -77,13 +77,13 @@ fn draw<S: Sink>(records: &[Record], sink: &mut S) -> Result<(), FeedFault>
 /// Accepted, the script is the sink's own groups round the records with their groups rewritten, and its picture is
 /// that of the records, each chain rewritten behind the sink's own groups.
 pub fn feed<S: Sink>(records: &[Record], sink: &mut S) -> Result<(), FeedFault>
-    ensures answer { result ≡ (fed (meaning sink.old) records.now).result }
-    ensures after { meaning sink.new ≡ (fed (meaning sink.old) records.now).next }
-    ensures refused { (fault : FeedFault) → result ≡ Err fault → meaning sink.new ≡ cleared (meaning sink.old) }
-    ensures accepted { (result ≡ Ok tt) ↔ Accepts (meaning sink.old) records.now }
-    ensures script { result ≡ Ok tt → meaning sink.new ≡ with_script (meaning sink.old) (whole_script (meaning sink.old) records.now) false }
-    ensures marks { result ≡ Ok tt → MarksBehind (meaning sink.old) records.now (meaning sink.new).script }
-    ensures groups { result ≡ Ok tt → GroupsBehind (meaning sink.old) records.now (meaning sink.new).script }
+    ensures answer { result ≡ (fed (S.meaning sink.old) records.now).result }
+    ensures after { S.meaning sink.new ≡ (fed (S.meaning sink.old) records.now).next }
+    ensures refused { (fault : FeedFault) → result ≡ Err fault → S.meaning sink.new ≡ cleared (S.meaning sink.old) }
+    ensures accepted { (result ≡ Ok tt) ↔ Accepts (S.meaning sink.old) records.now }
+    ensures script { result ≡ Ok tt → S.meaning sink.new ≡ with_script (S.meaning sink.old) (whole_script (S.meaning sink.old) records.now) false }
+    ensures marks { result ≡ Ok tt → MarksBehind (S.meaning sink.old) records.now (S.meaning sink.new).script }
+    ensures groups { result ≡ Ok tt → GroupsBehind (S.meaning sink.old) records.now (S.meaning sink.new).script }
 {
     let drawn = draw(records, sink);
     let refused = drawn.is_err();

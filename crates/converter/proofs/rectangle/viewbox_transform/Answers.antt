@@ -1,4 +1,3 @@
-use Rattle.std.proofs.Common.{refl}
 use Rattle.converter.specs.Rectangle.{placing}
 use Rattle.converter.proofs.rectangle.viewbox_transform.Goals as goal
 

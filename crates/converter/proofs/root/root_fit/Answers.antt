@@ -1,4 +1,3 @@
-use Rattle.std.proofs.Common.{refl}
 use Rattle.converter.specs.Rules.{root_fit}
 use Rattle.converter.proofs.root.root_fit.Goals as goal
 

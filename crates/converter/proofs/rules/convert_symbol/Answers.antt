@@ -1,6 +1,4 @@
-use Rattle.std.proofs.Common.{◌≡◌, true, None, sym, refl, subst}
-use Rattle.geom.specs.Matrix.{finite_matrix}
-use Rattle.record.specs.declared.Group.{Group}
+use Rattle.std.proofs.Common.{◌≡◌, None, sym, subst}
 use Rattle.converter.specs.declared.rules.Converted.{Converted}
 use Rattle.converter.specs.Rules.{convert_symbol}
 use Rattle.converter.specs.Laws.{Alone, AllGood}

@@ -1,4 +1,3 @@
-use Rattle.std.proofs.Common.{◌∙◌}
 use Rattle.converter.specs.Rules.{convert_use}
 use Rattle.converter.proofs.rules.convert_use.Goals as goal
 

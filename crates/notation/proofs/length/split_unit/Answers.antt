@@ -1,5 +1,6 @@
 use Rattle.std.proofs.Common.{◌≡◌, ℕ, ◌-◌, List, [], ◌∷◌, ◌++◌, length, take, drop, Some, None, Option, sym, refl, ap, ◌∙◌, subst, arith, Bor, MatchOption}
 use Rattle.std.specs.Str.{IsCharBoundary}
+use Rattle.std.proofs.lemmas.Bool.{false≢true}
 use Rattle.std.proofs.lemmas.Str.Pattern.{strip_suffix_char}
 use Rattle.std.proofs.lemmas.Option.{MatchOption-at_some, MatchOption-at_none}
 use Rattle.geom.specs.declared.length.Unit.{Unit as LengthUnit}
@@ -34,7 +35,7 @@ pub returns-in_default-split_at_checked : goal.returns-in_default-split_at_check
 returns-in_default-split_at_checked c =
     let text = c.args.text.now in
     let lacks = lacks_so text _ c.in_default.is (strip_suffix_char 37 text _ c.strip_suffix.ensures.cases (omega arith)) in
-    let apart = subst (λ (n : ℕ). IsCharBoundary text n → ⊥) c.saturating_sub.ensures (λ b. absurd (c.in_default-split_at_checked.ensures.variant.1 b)) in
+    let apart = subst (λ (n : ℕ). IsCharBoundary text n → ⊥) c.saturating_sub.ensures (λ b. false≢true (c.in_default-split_at_checked.ensures.variant.1 b)) in
     let p = by_name text None lacks (no_name text (length text - 2) (omega arith) apart) in
     record { number = sym (ap (λ q. q.0) p); unit = sym (ap (λ q. q.1) p) }
 

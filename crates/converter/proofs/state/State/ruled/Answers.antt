@@ -1,4 +1,3 @@
-use Rattle.std.proofs.Common.{refl}
 use Rattle.converter.specs.State.{ruled}
 use Rattle.converter.proofs.state.State.ruled.Goals as goal
 
