@@ -6,7 +6,6 @@ use Rattle.std.proofs.lemmas.List.{append-nil}
 use Rattle.picture.specs.Script.{open_after}
 use Rattle.picture.proofs.Scripts.{balanced_from_count, count_from_balanced}
 use Rattle.record.specs.declared.Group.{Group}
-use Rattle.record.specs.declared.Mark.{Mark}
 use Rattle.record.specs.declared.Record.{Record}
 use Rattle.record.specs.declared.Record.TheVariants as variants
 use Rattle.record.specs.Good.{good_record}

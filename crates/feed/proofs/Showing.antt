@@ -6,7 +6,6 @@ use Rattle.picture.specs.Picture.{picture}
 use Rattle.picture.specs.Outline.{outline}
 use Rattle.picture.specs.Feeding.{fed}
 use Rattle.picture.proofs.Feeding.{events_of_fed, feeding_keeps_balance, feeding_keeps_the_picture, feeding_keeps_the_outline}
-use Rattle.record.specs.declared.Mark.{Mark}
 use Rattle.record.specs.declared.Record.{Record}
 use Rattle.record.specs.declared.Record.TheVariants as variants
 use Rattle.record.specs.Zero.{zeroed_group, zeroed_mark}

@@ -72,7 +72,7 @@ module _ (es : List Entry) (new : ℕ) where
 -- ---- the links after a child was added
 
 abbrev pub Whole : List Entry → ℕ → ℕ → Option ℕ → Option ℕ → Type 0
-Whole es n k inside last = Kept es n k × (Ends es n inside last × (Linked es n × Unit {0}))
+Whole es n k inside last = record { kept : Kept es n k; ends : Ends es n inside last; linked : Linked es n }
 
 agree : (o p : Option ℕ) → o ≡ p → same o p ≡ true
 agree o p e = subst (λ (q : Option ℕ). same o q ≡ true) e (same_refl o)
@@ -278,4 +278,4 @@ ends_are es n s inside last is a l = rw (is, add-one) (agree inside _ (sym a), a
 
 pub fresh : (es : List Entry) → Whole es 0 0 None None
 unfolding around last_child last_below
-fresh es = ((omega arith, refl, λ i h. absurd (omega arith)), ((refl, refl), (λ i h. absurd (omega arith), tt)))
+fresh es = record { kept = (omega arith, refl, λ i h. absurd (omega arith)); ends = (refl, refl); linked = λ i h. absurd (omega arith) }

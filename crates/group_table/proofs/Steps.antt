@@ -50,28 +50,26 @@ module _ (t : GroupTable) where
       let len = length_script es n (omega arith) in
       let r = zeroed_record (record_of (Opened bits)) in
       let e = before_at s n len r in
-      let at_n = around_opened (s ++ r ∷ []) n _ (record_at s n len r) (omega (arith, ap closes e, ap opens e, t.kept.1)) in (
-        child_kept es n within t.linked (Opened bits) t.inside t.last parent_is last_is refl k (k + 1) t.kept is-sound (omega arith) (omega arith),
-        (
-          ends_are _ n (s ++ r ∷ []) (Some n) None (script_child es n within t.linked (Opened bits) t.inside t.last parent_is last_is) at_n (last_child_opened (s ++ r ∷ []) n at_n),
-          (child_linked es n within t.linked (Opened bits) t.inside t.last parent_is last_is refl, tt),
-        ),
-      )
+      let at_n = around_opened (s ++ r ∷ []) n _ (record_at s n len r) (omega (arith, ap closes e, ap opens e, t.kept.1)) in
+      record {
+        kept = child_kept es n within t.linked (Opened bits) t.inside t.last parent_is last_is refl k (k + 1) t.kept is-sound (omega arith) (omega arith);
+        ends = ends_are _ n (s ++ r ∷ []) (Some n) None (script_child es n within t.linked (Opened bits) t.inside t.last parent_is last_is) at_n (last_child_opened (s ++ r ∷ []) n at_n);
+        linked = child_linked es n within t.linked (Opened bits) t.inside t.last parent_is last_is refl;
+      }
 
   marked_at : (bits : MarkBits) → sound_mark bits ≡ true → n + k + 1 ≤ min (length es) most_places → Whole (tied (set es n (new_entry (Marked bits) t.inside)) t.inside t.last n) (n + 1) k t.inside (Some n)
   marked_at bits is-sound room =
       let within : n < length es = omega arith in
       let len = length_script es n (omega arith) in
       let r = zeroed_record (record_of (Marked bits)) in
-      let at_n = record_at s n len r in (
-        child_kept es n within t.linked (Marked bits) t.inside t.last parent_is last_is refl k k t.kept is-sound (omega arith) (omega arith),
-        (
-          ends_are _ n (s ++ r ∷ []) t.inside (Some n) (script_child es n within t.linked (Marked bits) t.inside t.last parent_is last_is)
-              (around_marked (s ++ r ∷ []) n _ at_n ∙ around_same s r n (omega (arith, len)) ∙ sym parent_is)
-              (last_child_marked (s ++ r ∷ []) n _ at_n),
-          (child_linked es n within t.linked (Marked bits) t.inside t.last parent_is last_is refl, tt),
-        ),
-      )
+      let at_n = record_at s n len r in
+      record {
+        kept = child_kept es n within t.linked (Marked bits) t.inside t.last parent_is last_is refl k k t.kept is-sound (omega arith) (omega arith);
+        ends = ends_are _ n (s ++ r ∷ []) t.inside (Some n) (script_child es n within t.linked (Marked bits) t.inside t.last parent_is last_is)
+            (around_marked (s ++ r ∷ []) n _ at_n ∙ around_same s r n (omega (arith, len)) ∙ sym parent_is)
+            (last_child_marked (s ++ r ∷ []) n _ at_n);
+        linked = child_linked es n within t.linked (Marked bits) t.inside t.last parent_is last_is refl;
+      }
 
   -- a group is open, and there is room for its close
   pub some_open : (g : ℕ) → t.inside ≡ Some g → (g < n) × (0 < k) × (n < min (length es) most_places)
@@ -91,17 +89,16 @@ module _ (t : GroupTable) where
       let at_n : around s n ≡ Some g = sym parent_is ∙ is in
       let more = s ++ variants.Close ∷ [] in
       let closes_here = record_at s n len variants.Close in
-      let around_n : around more n ≡ Some g = around_same s variants.Close n (omega (arith, len)) ∙ at_n in (
-        kept_more es n within t.linked variants.Close (set es n (new_entry Closed (Some g))) Closed k (k - 1) t.kept (length-set es n _) (script_new es n within t.linked Closed (Some g))
+      let around_n : around more n ≡ Some g = around_same s variants.Close n (omega (arith, len)) ∙ at_n in
+      record {
+        kept = kept_more es n within t.linked variants.Close (set es n (new_entry Closed (Some g))) Closed k (k - 1) t.kept (length-set es n _) (script_new es n within t.linked Closed (Some g))
             (λ i low. ap (λ (e : Entry). e.item) (old_at es n within t.linked Closed (Some g) i low))
-            (ap (λ (e : Entry). e.item) (new_at es n within t.linked Closed (Some g))) refl (omega arith) (omega arith),
-        (
-          ends_are _ n more (at es g).parent (Some g) (script_new es n within t.linked Closed (Some g))
-              (around_closed more n g closes_here around_n ∙ around_same s variants.Close g (omega (arith, len)) ∙ sym (old_parent es n within t.linked g some.0))
-              (last_child_closed more n g closes_here around_n),
-          (close_linked es n within t.linked (Some g) (sym at_n), tt),
-        ),
-      )
+            (ap (λ (e : Entry). e.item) (new_at es n within t.linked Closed (Some g))) refl (omega arith) (omega arith);
+        ends = ends_are _ n more (at es g).parent (Some g) (script_new es n within t.linked Closed (Some g))
+            (around_closed more n g closes_here around_n ∙ around_same s variants.Close g (omega (arith, len)) ∙ sym (old_parent es n within t.linked g some.0))
+            (last_child_closed more n g closes_here around_n);
+        linked = close_linked es n within t.linked (Some g) (sym at_n);
+      }
 
   -- the same of the table as the code leaves it
   module _ (es' : List Entry) (n' : ℕ) (more : n' ≡ n + 1) where
