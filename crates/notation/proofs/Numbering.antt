@@ -1,8 +1,8 @@
 -- What std's `parse` says of a text.
-use Rattle.std.proofs.Common.{◌≡◌, ℕ, ◌^◌, ◌<◌, Bool, true, false, cond, ◌&&◌, ltb, List, length, Some, None, Ok, Err, Result, sym, refl, ap, ◌∙◌, MatchOption}
+use Rattle.std.proofs.Common.{◌≡◌, ℕ, Bool, true, false, List, Some, None, Ok, Err, Result, sym, refl, ap, ◌∙◌, MatchOption}
 use lib.Ieee.{Float, binary32}
 use Rattle.std.specs.Float.Parse.{ParsesFloat}
-use Rattle.std.specs.Str.Parse.{ParsesUnsigned, IsNumeral, without_leading_plus, digits_value}
+use Rattle.std.specs.Str.Parse.{ParsesUnsigned, without_leading_plus, digits_value}
 use Rattle.std.specs.Str.{all_ascii_digits}
 use Rattle.std.specs.Result.{result_ok}
 use Rattle.std.proofs.lemmas.Str.Parse.{IsNumeralModel, numerals_by_value, tells_all_ascii_digits}

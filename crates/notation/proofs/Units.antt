@@ -1,6 +1,6 @@
 -- The unit at the end of a length's text.
-use Rattle.std.proofs.Common.{◌≡◌, ℕ, zero, suc, ◌+◌, ◌-◌, ◌<◌, ◌≤◌, Bool, true, false, cond, ◌&&◌, ◌||◌, eqb, List, [], ◌∷◌, ◌++◌, length, get_or, take, drop, Some, None, codes, Option, sym, refl, ap, ◌∙◌, subst, append_assoc, append-nil, add-zero, arith, length-append, length-drop, take-append-drop, take_at, drop_at}
-use Rattle.std.specs.Float.Parse.{float_scan_step, completes_number, lowercases_to, without_sign, is_infinity_text, is_nan_text, is_float_text}
+use Rattle.std.proofs.Common.{◌≡◌, ℕ, zero, suc, ◌-◌, ◌<◌, ◌≤◌, Bool, true, false, cond, ◌||◌, eqb, List, [], ◌∷◌, ◌++◌, length, get_or, take, drop, Some, None, codes, Option, sym, refl, ap, ◌∙◌, subst, append_assoc, append-nil, add-zero, arith, length-append, take-append-drop, take_at, drop_at}
+use Rattle.std.specs.Float.Parse.{float_scan_step, completes_number, lowercases_to, without_sign, is_infinity_text, is_nan_text}
 use Rattle.std.specs.Char.{to_ascii_lowercase}
 use Rattle.std.specs.Str.{IsCharBoundary, bytes_eq}
 use Rattle.std.proofs.lemmas.Slice.Eq.{bytes_eq-Decides}
@@ -10,7 +10,7 @@ use Rattle.geom.specs.declared.length.Unit.{Unit as LengthUnit}
 use Rattle.geom.specs.declared.length.Unit.TheVariants as unit
 use Rattle.notation.specs.Names.{named, letter_units, units}
 use Rattle.notation.specs.Numbers.{a_number}
-use Rattle.notation.specs.Lengths.{ends_with, parted, parts, name_of, PartsFound}
+use Rattle.notation.specs.Lengths.{parted, parts, PartsFound}
 use Rattle.notation.proofs.Naming.{other_text, not_named}
 
 -- THE END OF A TEXT

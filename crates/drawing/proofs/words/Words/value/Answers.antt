@@ -11,26 +11,26 @@ use Rattle.drawing.proofs.words.Words.value.Goals as goal
 formed : (f g : Form) (line rest : List ℕ) (v : Value) → f ≡ g → Part (words_of g) (ValueAt g) line rest (Ok v) → Part (words_of f) (ValueAt f) line rest (Ok v)
 formed f g line rest v e h = subst (λ (k : Form). Part (words_of k) (ValueAt k) line rest (Ok v)) (sym e) h
 
-pub returns-in_ok-length : goal.returns-in_ok-length
+pub returns-in_ok-length-in-Length : goal.returns-in_ok-length-in-Length
 unfolding as_length
-returns-in_ok-length c = formed _ form.Length _ _ _ c.in-Length.is c.in_ok-length.ensures
+returns-in_ok-length-in-Length c = formed _ form.Length _ _ _ c.in-Length.is c.in_ok-length-in-Length.ensures
 
-pub returns-in_ok-rect : goal.returns-in_ok-rect
+pub returns-in_ok-rect-in-Box : goal.returns-in_ok-rect-in-Box
 unfolding as_rect
-returns-in_ok-rect c = formed _ form.Box _ _ _ c.in-Box.is c.in_ok-rect.ensures
+returns-in_ok-rect-in-Box c = formed _ form.Box _ _ _ c.in-Box.is c.in_ok-rect-in-Box.ensures
 
-pub returns-in_ok-m : goal.returns-in_ok-m
+pub returns-in_ok-m-in-Matrix : goal.returns-in_ok-m-in-Matrix
 unfolding as_matrix
-returns-in_ok-m c = formed _ form.Matrix _ _ _ c.in-Matrix.is c.in_ok-m.ensures
+returns-in_ok-m-in-Matrix c = formed _ form.Matrix _ _ _ c.in-Matrix.is c.in_ok-m-in-Matrix.ensures
 
-pub returns-in_ok-aspect : goal.returns-in_ok-aspect
+pub returns-in_ok-aspect-in-Aspect : goal.returns-in_ok-aspect-in-Aspect
 unfolding as_aspect
-returns-in_ok-aspect c = formed _ form.Aspect _ _ _ c.in-Aspect.is c.in_ok-aspect.ensures
+returns-in_ok-aspect-in-Aspect c = formed _ form.Aspect _ _ _ c.in-Aspect.is c.in_ok-aspect-in-Aspect.ensures
 
-pub returns-in_ok-number : goal.returns-in_ok-number
+pub returns-in_ok-number-in-Number : goal.returns-in_ok-number-in-Number
 unfolding as_number
-returns-in_ok-number c = formed _ form.Number _ _ _ c.in-Number.is c.in_ok-number.ensures
+returns-in_ok-number-in-Number c = formed _ form.Number _ _ _ c.in-Number.is c.in_ok-number-in-Number.ensures
 
-pub returns-in_ok-word : goal.returns-in_ok-word
+pub returns-in_ok-word-in-Word : goal.returns-in_ok-word-in-Word
 unfolding as_word
-returns-in_ok-word c = formed _ form.Word _ _ _ c.in-Word.is c.in_ok-word.ensures
+returns-in_ok-word-in-Word c = formed _ form.Word _ _ _ c.in-Word.is c.in_ok-word-in-Word.ensures
