@@ -1,7 +1,7 @@
 -- What is good is finite part by part, and the bits of what is finite are no NaN's. Assumes nothing.
-use Rattle.std.proofs.Common.{◌≡◌, ℕ, Bool, true, false, not, ◌&&◌, T, pos, Some, sym, refl, subst, arith}
+use Rattle.std.proofs.Common.{◌≡◌, Bool, true, false, not, T, pos, Some, sym, refl, subst}
 use lib.Count.{count_trailing_zeros}
-use lib.Ieee.{Float, nan, inf, fin, binary32, of_bits, to_bits, nan_bits, is_nan, fits, lt, le, eq, round, odd, units, size, span, climb}
+use lib.Ieee.{Float, nan, inf, fin, binary32, to_bits, nan_bits, is_nan, fits, lt, le, eq, round, odd, units, size, span, climb}
 use lib.Ieee.Bits.{of_bits-to_bits, nan_bits_is}
 use Rattle.std.specs.Float.{float_is_finite}
 use Rattle.std.proofs.lemmas.Bool.{and_parts}

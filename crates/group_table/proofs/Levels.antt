@@ -1,12 +1,12 @@
 -- The groups that are open before a record of a script. Assumes nothing.
-use Rattle.std.proofs.Common.{◌≡◌, ℕ, zero, suc, ◌+◌, ◌-◌, ◌<◌, ◌≤◌, Bool, true, false, cond, ◌&&◌, eqb, ◌⊎◌, List, [], ◌∷◌, ◌++◌, length, take, Some, None, Decides, Option, sym, refl, ap, ◌∙◌, subst, inl, inr, add-zero, arith}
+use Rattle.std.proofs.Common.{◌≡◌, ℕ, zero, suc, ◌+◌, ◌-◌, ◌<◌, ◌≤◌, true, ◌&&◌, eqb, List, [], ◌∷◌, ◌++◌, take, Some, None, Decides, Option, sym, refl, ap, ◌∙◌, subst, inl, inr, add-zero, arith}
 use Rattle.std.specs.List.{slice_get}
 use Rattle.std.proofs.lemmas.Bool.{cases_lt, eqb-true, eq-eqb, and_parts, and_from}
 use Rattle.record.specs.declared.Record.{Record}
 use Rattle.record.specs.declared.Record.TheVariants.{Open, Mark, Close}
 use Rattle.sink.specs.Script.{opens, closes, level}
 use Rattle.sink.proofs.Counting.{opens_append, closes_append}
-use Rattle.group_table.specs.Links.{is_open, is_child, level_at, around, last_below, Encloses, Innermost}
+use Rattle.group_table.specs.Links.{is_open, level_at, around, Encloses, Innermost}
 use Rattle.group_table.proofs.Scans.{Last, last_is, last_by}
 
 -- ---- one record more

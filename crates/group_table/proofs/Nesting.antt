@@ -1,15 +1,15 @@
 -- The group around a record, its first child and its next sibling, as a script grows. Assumes nothing.
-use Rattle.std.proofs.Common.{◌≡◌, ℕ, zero, suc, ◌+◌, ◌-◌, ◌<◌, ◌≤◌, Bool, true, false, cond, ◌&&◌, ◌⊎◌, List, [], ◌∷◌, ◌++◌, length, take, Some, None, Decides, Option, sym, refl, ap, ◌∙◌, subst, inl, inr, arith, length-append}
+use Rattle.std.proofs.Common.{◌≡◌, ℕ, suc, ◌+◌, ◌-◌, ◌<◌, ◌≤◌, true, false, ◌&&◌, List, length, take, Some, None, Decides, Option, sym, refl, ap, ◌∙◌, subst, inl, inr, arith}
 use Rattle.std.specs.List.{slice_get}
 use Rattle.std.proofs.lemmas.Bool.{cases_lt, both_ways, and_parts, and_from}
 use Rattle.record.specs.declared.Group.{Group}
 use Rattle.record.specs.declared.Mark.{Mark}
 use Rattle.record.specs.declared.Record.{Record}
 use Rattle.record.specs.declared.Record.TheVariants as variants
-use Rattle.sink.specs.Script.{opens, closes, level}
-use Rattle.group_table.specs.Links.{is_open, is_child, level_at, around, same, last_below, first_from, child_after}
+use Rattle.sink.specs.Script.{opens, closes}
+use Rattle.group_table.specs.Links.{is_open, is_child, level_at, around, same, child_after}
 use Rattle.group_table.specs.Invariant.{last_child}
-use Rattle.group_table.proofs.Scans.{same_refl, same_true, none_some, Last, last_map, last_up, last_is, last_by, First, first_is, first_by}
+use Rattle.group_table.proofs.Scans.{same_refl, same_true, Last, last_map, last_up, last_is, last_by, First, first_is, first_by}
 use Rattle.group_table.proofs.Levels.{level_is, Leads, around_is, around_by, around_before, around_open, around_level, still_open, none_open}
 
 -- ---- the level and the group around, past record n

@@ -63,14 +63,14 @@ module _ (rs : List Record) (cap : ℕ) (limit : Option ℕ) (nested : ℕ) (ok 
     open_deep g good deep =
         let lv = level_is in
         let fails : leb 112 (level (map zeroed_record rs)) ≡ true = grind (arith, nat_tests) in
-        rw (on, good, fails) (refl, ap (λ b. notebook_meaning rs b limit) (sym on))
+        rw (on, good, fails) (refl, refl)
 
     pub open_full : (g : Group) → good_group g ≡ true → nested < 112 → allowance limit - (length rs + nested) < 2 → Is (Err NoPlaces) (notebook_meaning rs t limit) (open_step (notebook_meaning rs t limit) g)
     open_full g good low less =
         let lv = level_is in
         let passes : leb 112 (level (map zeroed_record rs)) ≡ false = grind (arith, nat_tests) in
         let fails : exceeds (places (map zeroed_record rs) + 2) (limit_from limit) ≡ true = rw places_is (full limit (length rs + nested) 2 ok.0 ok.2 less) in
-        rw (on, good, passes, fails) (refl, ap (λ b. notebook_meaning rs b limit) (sym on))
+        rw (on, good, passes, fails) (refl, refl)
 
     pub open_done : (g : Group) → good_group g ≡ true → nested < 112 → 2 ≤ allowance limit - (length rs + nested) → Is (Ok tt) (notebook_meaning (rs ++ variants.Open g ∷ []) t limit) (open_step (notebook_meaning rs t limit) g)
     open_done g good low enough =
@@ -82,7 +82,7 @@ module _ (rs : List Record) (cap : ℕ) (limit : Option ℕ) (nested : ℕ) (ok 
     pub mark_full : (k : Mark) → good_mark k ≡ true → allowance limit - (length rs + nested) < 1 → Is (Err NoPlaces) (notebook_meaning rs t limit) (mark_step (notebook_meaning rs t limit) k)
     mark_full k good less =
         let fails : exceeds (places (map zeroed_record rs) + 1) (limit_from limit) ≡ true = rw places_is (full limit (length rs + nested) 1 ok.0 ok.2 less) in
-        rw (on, good, fails) (refl, ap (λ b. notebook_meaning rs b limit) (sym on))
+        rw (on, good, fails) (refl, refl)
 
     pub mark_done : (k : Mark) → good_mark k ≡ true → 1 ≤ allowance limit - (length rs + nested) → Is (Ok tt) (notebook_meaning (rs ++ variants.Mark k ∷ []) t limit) (mark_step (notebook_meaning rs t limit) k)
     mark_done k good enough =
@@ -93,7 +93,7 @@ module _ (rs : List Record) (cap : ℕ) (limit : Option ℕ) (nested : ℕ) (ok 
     close_none none =
         let lv = level_is in
         let fails : leb (level (map zeroed_record rs)) 0 ≡ true = grind (arith, nat_tests) in
-        rw (on, fails) (refl, ap (λ b. notebook_meaning rs b limit) (sym on))
+        rw (on, fails) (refl, refl)
 
     pub close_done : (nested ≡ 0 → ⊥) → Is (Ok tt) (notebook_meaning (rs ++ variants.Close ∷ []) t limit) (close_step (notebook_meaning rs t limit))
     close_done some =
@@ -105,7 +105,7 @@ module _ (rs : List Record) (cap : ℕ) (limit : Option ℕ) (nested : ℕ) (ok 
     end_others some =
         let lv = level_is in
         let fails : eqb (level (map zeroed_record rs)) 0 ≡ false = grind (arith, nat_tests) in
-        rw (on, fails) (refl, ap (λ b. notebook_meaning rs b limit) (sym on))
+        rw (on, fails) (refl, refl)
 
     pub end_done : nested ≡ 0 → Is (Ok tt) (notebook_meaning rs false limit) (end_step (notebook_meaning rs t limit))
     end_done none =

@@ -17,7 +17,7 @@ invariant_of-self c =
     let room = s.ok.0 in
     let bal = s.ok.3 in
     let q = sound_push (vec_items s.records) (vec_capacity s.records) s.limit s.nested s.ok Close (s.nested - 1) (omega (arith, some, room)) (omega (arith, some, bal)) in
-    (rw (p.items, p.capacity) q, tt)
+    record { ok = rw (p.items, p.capacity) q }
 
 pub returns : goal.returns
 returns c =

@@ -19,7 +19,7 @@ invariant_of-self c =
     let len = s.records.ok.0 in
     let bal = s.ok.3 in
     let q = sound_push (vec_items s.records) (vec_capacity s.records) s.limit s.nested s.ok (Mark c.args.mark) s.nested (omega (arith, left, enough, len)) (omega (arith, bal)) in
-    (rw (p.items, p.capacity) q, tt)
+    record { ok = rw (p.items, p.capacity) q }
 
 pub returns : goal.returns
 returns c =

@@ -26,7 +26,7 @@ invariant_of-self c =
     let len = s.records.ok.0 in
     let bal = s.ok.3 in
     let q = sound_push (vec_items s.records) (vec_capacity s.records) s.limit s.nested s.ok (Open c.args.group) (s.nested + 1) (omega (arith, left, enough, len)) (omega (arith, bal)) in
-    (rw (p.items, p.capacity) q, tt)
+    record { ok = rw (p.items, p.capacity) q }
 
 pub returns : goal.returns
 returns c =

@@ -1,4 +1,4 @@
-use Rattle.std.proofs.Common.{Some, vec_items, arith, rules}
+use Rattle.std.proofs.Common.{Some, vec_items, arith}
 use Rattle.group_table.proofs.Steps.{closed, some_open, none_inside}
 use Rattle.group_table.proofs.Calls.{close_none, close_done}
 use Rattle.group_table.proofs.table.calls.GroupTableSink.close.Goals as goal
