@@ -2,7 +2,6 @@
 use Rattle.std.proofs.Common.{◌≡◌, ℕ, Bool, true, false, cond, List, [], ◌∷◌, ◌++◌, length, is_some, IsErrAnd, Some, None, Ok, Err, Option, Result, sym, refl, ap, ◌∙◌, subst, arith, MatchOption}
 use Rattle.std.specs.Option.{ok_or}
 use Rattle.std.proofs.lemmas.Bool.{cond-true, cond-false}
-use Rattle.notation.specs.Names.{named}
 use Rattle.notation.specs.Words.{first_word, past_word, past_words}
 use Rattle.drawing.specs.Grammar.{fits, missing, Reading, Part}
 use Rattle.drawing.specs.declared.expected.Expected.{Expected}

@@ -1,13 +1,13 @@
 -- What lines say: the commands, and what a line lacks that can't be read.
-use Rattle.std.specs.Prelude.{◌≡◌, ℕ, Bool, true, false, cond, ◌||◌, List, [], ◌∷◌, ◌++◌, IsSomeAnd, Some, None, codes, Option, Result}
+use Rattle.std.specs.Prelude.{◌≡◌, ℕ, Bool, true, cond, ◌||◌, List, [], ◌∷◌, ◌++◌, IsSomeAnd, Some, None, codes, Option}
 use Rattle.std.specs.Str.{bytes_eq}
 use Rattle.std.specs.Option.{option_or}
 use Rattle.element.specs.declared.value.Attribute.{Attribute}
 use Rattle.element.specs.declared.value.Value.{Value}
 use Rattle.notation.specs.Names.{named, attributes}
 use Rattle.notation.specs.Words.{word, first_word, past_word, past_words}
-use Rattle.notation.specs.Numbers.{Number, whole_number}
-use Rattle.drawing.specs.Grammar.{fits, missing, Reading}
+use Rattle.notation.specs.Numbers.{whole_number}
+use Rattle.drawing.specs.Grammar.{fits, missing}
 use Rattle.drawing.specs.Values.{LengthAt, DirectionAt, RulerAt, NumberAt, RectAt, AspectAt, SizeAt, WholeNumberAt, KindAt, AttributeAt, ValueAt, words_of, form_at, past_form}
 use Rattle.svgtree.specs.declared.calls.Call.TheVariants as call
 use Rattle.drawing.specs.declared.command.Command.{Command as Order}

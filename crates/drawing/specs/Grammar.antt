@@ -1,5 +1,5 @@
 -- Rows of words: what each word of a line should be, and the first that is missing.
-use Rattle.std.specs.Prelude.{◌≡◌, ℕ, Bool, true, false, cond, List, [], ◌∷◌, length, is_some, Some, None, Option, Result, MatchResult, ◌==◌, nat_lt}
+use Rattle.std.specs.Prelude.{◌≡◌, ℕ, Bool, false, cond, List, [], ◌∷◌, length, is_some, Some, None, Option, Result, MatchResult, ◌==◌, nat_lt}
 use Rattle.notation.specs.Names.{named, directions, aligns, slices, kinds, attributes}
 use Rattle.notation.specs.Words.{first_word, past_word, past_words}
 use Rattle.notation.specs.Numbers.{a_number, whole_number}

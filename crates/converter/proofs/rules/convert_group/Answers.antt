@@ -24,4 +24,4 @@ returns-in-Symbol c = rw (← c.in-Symbol.ensures, ← c.convert_symbol.ensures.
 
 pub returns-in-Other : goal.returns-in-Other
 unfolding convert_as
-returns-in-Other c = rw (← c.in-Other.ensures, ← c.bare.ensures) refl
+returns-in-Other c = cc

@@ -1,4 +1,4 @@
-use Rattle.std.proofs.Common.{[], ◌∷◌, sym, refl, ap, ◌∙◌}
+use Rattle.std.proofs.Common.{[], ◌∷◌, refl, ap, ◌∙◌}
 use Rattle.notation.specs.Numbers.{whole_number}
 use Rattle.notation.specs.Words.{first_word}
 use Rattle.drawing.specs.Values.{NumberAt}

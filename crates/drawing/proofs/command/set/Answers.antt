@@ -1,4 +1,4 @@
-use Rattle.std.proofs.Common.{◌≡◌, ℕ, List, [], ◌∷◌, IsSomeAnd, Some, Option, sym, refl, ap, ◌∙◌, subst}
+use Rattle.std.proofs.Common.{◌≡◌, ℕ, List, [], ◌∷◌, IsSomeAnd, Some, Option, sym, refl, ◌∙◌, subst}
 use Rattle.element.specs.declared.value.Attribute.{Attribute}
 use Rattle.element.specs.declared.value.Value.{Value}
 use Rattle.drawing.specs.Values.{AttributeAt, ValueAt, words_of, form_at, past_form}

@@ -1,4 +1,3 @@
-use denote.Slice.{shr_slice_at}
 use Rattle.std.proofs.Common.{[], ◌∷◌}
 use Rattle.drawing.specs.declared.expected.Expected.TheVariants as expected
 use Rattle.drawing.specs.Values.{SliceAt}
