@@ -1,5 +1,5 @@
 -- Eight digits, written one after another.
-use Rattle.std.proofs.Common.{◌≡◌, ℕ, ◌/◌, ◌%◌, ◌^◌, ◌<◌, List, [], ◌∷◌, ◌++◌, sym, refl, ap, ◌∙◌, arith}
+use Rattle.std.proofs.Common.{◌≡◌, ℕ, ◌%◌, ◌<◌, [], ◌∷◌, ◌++◌, refl, ap, ◌∙◌, arith}
 use lib.Utf8.{encode}
 use Rattle.std.specs.Char.{digit_char}
 use Rattle.std.proofs.lemmas.Str.{encode_ascii}

@@ -1,8 +1,8 @@
 -- The bits of a float in which a zero has no sign.
-use Rattle.std.proofs.Common.{◌≡◌, ℕ, zero, suc, ◌+◌, ◌*◌, ◌/◌, ◌^◌, ◌<◌, Bool, true, false, ◌&&◌, ◌||◌, eqb, ℤ, pos, negsuc, sym, refl, ap, ◌∙◌, mul-pos, zero-mul, mul-one, arith}
+use Rattle.std.proofs.Common.{◌≡◌, ℕ, zero, suc, ◌*◌, ◌<◌, true, false, ℤ, pos, sym, refl, ap, ◌∙◌, mul-pos, zero-mul, arith}
 use native.Mathlib.Nat.{zero-div}
-use lib.Ieee.{Float, nan, inf, fin, binary32, of_bits, of_fields, odd, to_bits, eq, is_nan, up, down, low, prec, size}
-use lib.Ieee.Fits.{up_pos, down_pos}
+use lib.Ieee.{Float, nan, inf, fin, binary32, of_bits, of_fields, odd, to_bits, eq, is_nan, up, down}
+use lib.Ieee.Fits.{up_pos}
 use Rattle.std.proofs.lemmas.Bool.{and_parts, eqb-true, false≢true, true≢false}
 use Rattle.record.specs.Zero.{zeroed}
 use Rattle.reply.specs.Bits.{bits_of}

@@ -1,5 +1,5 @@
 -- What a session holds.
-use Rattle.std.specs.Prelude.{ℕ, IfSome, Some, None, vec_items, vec_len, Option}
+use Rattle.std.specs.Prelude.{ℕ, IfSome, vec_items, vec_len, Option}
 use Rattle.std.specs.Option.{option_map}
 use Rattle.svgtree.specs.Links.{Linked}
 use Rattle.svgtree.specs.Memory.{nodes_of, model_of}

@@ -8,7 +8,6 @@ use Rattle.geom.specs.Length.{base_of, length_in}
 use Rattle.geom.specs.Root.{root_size}
 use Rattle.geom.specs.declared.root.RootSize.{RootSize}
 use Rattle.element.specs.Attributes.{length_of, view_box_of}
-use Rattle.element.specs.declared.element.Element.{Element}
 use Rattle.element.specs.declared.value.Attribute.TheVariants.{Width, Height}
 use Rattle.svgtree.specs.Calls.{turn}
 use Rattle.svgtree.specs.Limits.{max_nodes}
