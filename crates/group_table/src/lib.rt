@@ -10,7 +10,6 @@ mod table;
 
 pub use entry::Entry;
 pub use laws::{example_stands, parents_stand};
-use sink::Sink;
 pub use table::GroupTable;
 
 #[cfg(test)]
