@@ -12,7 +12,7 @@ fn the_first_check_that_fails(rt: HostRuntime) {
             (false, Refusal::OutOfTurn),
             (true, Refusal::TooDeep),
             (true, Refusal::BadValue),
-        ],),
+        ]),
         Some(Refusal::TooDeep)
     );
 }

@@ -8,7 +8,7 @@ use Rattle.record.specs.declared.Group.{Group}
 use Rattle.record.specs.declared.Mark.{Mark}
 use Rattle.record.specs.declared.Record.{Record}
 use Rattle.record.specs.declared.Record.TheVariants as variants
-use Rattle.sink.specs.declared.fault.SinkFault.TheVariants.{OutOfTurn, NoPlaces}
+use Rattle.sink.specs.declared.fault.SinkFault.TheVariants.{OutOfTurn, TooDeep, NoPlaces}
 use Rattle.sink.specs.Zeroed.{group_twice}
 use Rattle.sink.specs.Meaning.{most_places, most_open, exceeds}
 use Rattle.sink.specs.Script.{level, places}
@@ -40,9 +40,15 @@ module _ (t : GroupTable) where
   low : t.nested < most_open → leb most_open (level (script t)) ≡ false
   low few = lt-leb most_open (level (script t)) (omega (arith, level_now))
 
+  deep : most_open ≤ t.nested → leb most_open (level (script t)) ≡ true
+  deep many = le-leb most_open (level (script t)) (omega (arith, level_now))
+
 -- ---- a call in turn: it is refused and the table stays, or it leaves the entries es', of which n' are in use
 
 module _ (t : GroupTable) (on : t.turn ≡ true) where
+  pub open_deep : (g : Group) → good_group g ≡ true → most_open ≤ t.nested → Is (Err TooDeep) (meaning_of t) (open_step (meaning_of t) g)
+  open_deep g good many = rw (on, good, deep t many) (refl, refl)
+
   pub open_full : (g : Group) → good_group g ≡ true → t.nested < most_open → places_left t < 2 → Is (Err NoPlaces) (meaning_of t) (open_step (meaning_of t) g)
   open_full g good few none = rw (on, good, low t few, full t 2 none) (refl, refl)
 

@@ -2,8 +2,14 @@ use Rattle.std.proofs.Common.{vec_items, sym, ap, ◌∙◌, arith}
 use Rattle.record.specs.declared.Record.TheVariants as variants
 use Rattle.group_table.specs.declared.entry.Item.TheVariants.{Opened}
 use Rattle.group_table.proofs.Steps.{opened, parent_within, last_within}
-use Rattle.group_table.proofs.Calls.{open_full, open_done}
+use Rattle.group_table.proofs.Calls.{open_deep, open_full, open_done}
 use Rattle.group_table.proofs.table.calls.GroupTableSink.open.Goals as goal
+
+pub returns-then-self-ge-MOST_OPEN : goal.returns-then-self-ge-MOST_OPEN
+returns-then-self-ge-MOST_OPEN c =
+    let good = sym c.is_good.ensures ∙ c.if-not-is_good.false in
+    let q = open_deep c.args.self.now c.if-not-self.false c.args.group good c.if-self-ge-MOST_OPEN.true in
+    record { answer = q.0; after = q.1 }
 
 pub returns-then-places_left-lt-OPEN_PLACES : goal.returns-then-places_left-lt-OPEN_PLACES
 returns-then-places_left-lt-OPEN_PLACES c =
