@@ -7,8 +7,8 @@ mod pile;
 
 use anyhow::anyhow;
 use drawing::{Expected, Unreadable, read_line};
-use reply::{Reply, Style, style_of};
-use session::Session;
+use reply::{Failure, Reply, Style};
+use session::{CommandError, Session};
 use std::env;
 use std::io::{BufRead, BufReader, BufWriter, ErrorKind, Write};
 
@@ -23,8 +23,8 @@ fn style(rt: &HostRuntime) -> anyhow::Result<Style> {
     let Some(word) = words.next() else {
         return Ok(Style::Plain);
     };
-    match (style_of(word.as_str()), words.next()) {
-        (Some(style), None) => Ok(style),
+    match (word.as_str().parse(), words.next()) {
+        (Ok(style), None) => Ok(style),
         _ => Err(anyhow!("expected no word, or the word people")),
     }
 }
@@ -34,9 +34,7 @@ fn run(rt: &HostRuntime) -> anyhow::Result<()> {
     let heap = rt.alloc();
     let mut session = Session::new(heap);
     let mut out = BufWriter::new(heap, rt.stdout())?;
-    let mut number: u64 = 0;
-    for line in BufReader::new(heap, rt.stdin())?.lines(heap) {
-        number = number.saturating_add(1);
+    for (line, number) in BufReader::new(heap, rt.stdin())?.lines(heap).zip(1..) {
         let outcome = match line {
             Ok(line) if line.as_str().trim() == "pile" => {
                 writeln!(out, "{line}")?;
@@ -46,23 +44,27 @@ fn run(rt: &HostRuntime) -> anyhow::Result<()> {
             Ok(line) => {
                 let outcome = match read_line(line.as_str()) {
                     Ok(None) => continue,
-                    Ok(Some(command)) => Ok(session.run(heap, command)?),
-                    Err(expected) => Err(Unreadable {
-                        line: number,
-                        expected,
-                    }),
+                    Ok(Some(command)) => match session.run(heap, command) {
+                        Ok(answer) => Ok(answer),
+                        Err(CommandError::Refused(refusal)) => Err(Failure::Refused(refusal)),
+                        Err(CommandError::OutOfMemory(error)) => return Err(error.into()),
+                    },
+                    Err(expected) => Err(unreadable(number, expected)),
                 };
                 writeln!(out, "{line}")?;
                 outcome
             }
-            Err(error) if error.kind() == ErrorKind::InvalidData => Err(Unreadable {
-                line: number,
-                expected: Expected::Text,
-            }),
+            Err(error) if error.kind() == ErrorKind::InvalidData => {
+                Err(unreadable(number, Expected::Text))
+            }
             Err(error) => return Err(error.into()),
         };
         writeln!(out, "{}", Reply { style, outcome })?;
     }
     out.flush()?;
     Ok(())
+}
+
+fn unreadable(line: u64, expected: Expected) -> Failure {
+    Failure::Unreadable(Unreadable { line, expected })
 }

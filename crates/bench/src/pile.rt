@@ -5,7 +5,7 @@ use feed::feed;
 use geom::{Matrix, Rect, Ruler};
 use group_table::{Entry, GroupTable};
 use record::{Group, Mark, Record};
-use reply::{Bits, Style};
+use reply::{ForPeople, Plain, Style};
 use sink::{Framed, Sink, Strip};
 use std::alloc::Global;
 use std::io::{BufWriter, Stdout, Write};
@@ -43,7 +43,7 @@ fn records() -> [Record; 6] {
 
 // The pile over an empty table, placed at (10, 20) and seen through a window of 100 by 50.
 fn pile(heap: Global) -> anyhow::Result<Pile> {
-    let table = GroupTable::new(vec![in heap; Entry::blank(); 32]?);
+    let table = GroupTable::new(vec![in heap; Entry::default(); 32]?);
     let Ok(placed) = Framed::place(table, Matrix::from_translate(10.0, 20.0)) else {
         return Err(anyhow!("the place is not good"));
     };
@@ -61,93 +61,16 @@ fn pile(heap: Global) -> anyhow::Result<Pile> {
     Ok(Strip::new(seen))
 }
 
-fn write_group(out: &mut BufWriter<Stdout>, group: Group) -> anyhow::Result<()> {
-    let m = group.matrix;
-    write!(
-        out,
-        "> open {} {} {} {}",
-        group.id,
-        Bits(m.a),
-        Bits(m.b),
-        Bits(m.c)
-    )?;
-    write!(out, " {} {} {}", Bits(m.d), Bits(m.e), Bits(m.f))?;
-    match group.clip {
-        Some(r) => write!(
-            out,
-            " clip {} {} {} {}",
-            Bits(r.x),
-            Bits(r.y),
-            Bits(r.w),
-            Bits(r.h)
-        )?,
-        None => write!(out, " noclip")?,
-    }
-    writeln!(out, " {}", Bits(group.opacity))?;
-    Ok(())
-}
-
-fn write_record(out: &mut BufWriter<Stdout>, record: Record) -> anyhow::Result<()> {
-    match record {
-        Record::Open(group) => write_group(out, group)?,
-        Record::Mark(mark) => {
-            let r = mark.ruler;
-            writeln!(
-                out,
-                "> mark {} {} {} {}",
-                mark.leaf,
-                Bits(r.w),
-                Bits(r.h),
-                Bits(r.f)
-            )?;
-        }
-        Record::Close => writeln!(out, "> close")?,
-    }
-    Ok(())
-}
-
-fn tell_group(out: &mut BufWriter<Stdout>, group: Group) -> anyhow::Result<()> {
-    let m = group.matrix;
-    write!(
-        out,
-        "    open group {}: matrix {} {} {} {} {} {}",
-        group.id, m.a, m.b, m.c, m.d, m.e, m.f
-    )?;
-    if let Some(r) = group.clip {
-        write!(out, ", clip {} {} {} {}", r.x, r.y, r.w, r.h)?;
-    }
-    writeln!(out, ", opacity {}", group.opacity)?;
-    Ok(())
-}
-
-fn tell_record(out: &mut BufWriter<Stdout>, record: Record) -> anyhow::Result<()> {
-    match record {
-        Record::Open(group) => tell_group(out, group)?,
-        Record::Mark(mark) => {
-            let r = mark.ruler;
-            writeln!(
-                out,
-                "    mark leaf {}: viewport {} by {}, font size {}",
-                mark.leaf, r.w, r.h, r.f
-            )?;
-        }
-        Record::Close => writeln!(out, "    close")?,
-    }
-    Ok(())
-}
-
 /// Feeds the records into the pile and writes the script that its table then holds.
 pub fn show(out: &mut BufWriter<Stdout>, style: Style, heap: Global) -> anyhow::Result<()> {
     let mut pile = pile(heap)?;
     if feed(&records(), &mut pile).is_err() {
         return Err(anyhow!("the pile refused the records"));
     }
-    for n in 0..pile.count() {
-        if let Some(record) = pile.record(n) {
-            match style {
-                Style::Plain => write_record(out, record)?,
-                Style::People => tell_record(out, record)?,
-            }
+    for record in (0..pile.count()).filter_map(|n| pile.record(n)) {
+        match style {
+            Style::Plain => writeln!(out, "> {}", Plain(record))?,
+            Style::People => writeln!(out, "    {}", ForPeople(record))?,
         }
     }
     Ok(())

@@ -1,3 +1,4 @@
+pub mod Constants
 pub mod Laws
 pub mod Goodness
 pub mod Examples

@@ -9,10 +9,10 @@ use Rattle.geom.specs.declared.matrix.Matrix.{Matrix}
 use Rattle.geom.specs.declared.rect.Rect.{Rect}
 use Rattle.record.specs.Good.{good_group, good_opacity}
 use Rattle.record.specs.declared.Group.{Group}
-use Rattle.element.specs.Attributes.{length_of, opacity_of, overflows, view_box_of, aspect_of}
+use Rattle.element.specs.Attributes.{length_of, opacity_of, overflows}
 use Rattle.element.specs.declared.element.Element.{Element}
 use Rattle.element.specs.declared.value.Attribute.TheVariants.{X, Y, Width, Height}
-use Rattle.converter.specs.Rectangle.{position, resolved_rect, placing}
+use Rattle.converter.specs.Rectangle.{position, resolved_rect, fitted_view_box, placing}
 use Rattle.converter.specs.declared.state.State.{State}
 use Rattle.converter.specs.declared.rules.Converted.{Converted}
 
@@ -61,10 +61,10 @@ SymbolClips e symbol s c = let r = resolved_rect e (None, None) s in ClipsTo c r
 
 -- the placing of a nested svg in its rectangle, and of a used symbol in its use's: the translation, and inside it the fit
 abbrev pub svg_placing : Element → State → Matrix
-svg_placing e s = placing (resolved_rect e s.use_size s) (view_box_of e) (aspect_of e)
+svg_placing e s = placing (resolved_rect e s.use_size s) (fitted_view_box e)
 
 abbrev pub symbol_placing : Element → Element → State → Matrix
-symbol_placing e symbol s = placing (resolved_rect e (None, None) s) (view_box_of symbol) (aspect_of symbol)
+symbol_placing e symbol s = placing (resolved_rect e (None, None) s) (fitted_view_box symbol)
 
 -- the translation of a use by its x and y
 abbrev pub use_translation : Element → State → Matrix

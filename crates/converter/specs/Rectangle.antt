@@ -1,21 +1,21 @@
 -- The rectangle of a nested svg or a used symbol, and the viewport inside it.
 use Rattle.std.specs.Prelude.{cond, Option, Float}
+use Rattle.std.specs.Option.{option_map}
 use Rattle.std.specs.declared.option.Option.TheVariants as option
 use Rattle.geom.specs.F32.{whole}
 use Rattle.geom.specs.Fit.{fit}
 use Rattle.geom.specs.Length.{base_of, length_in}
 use Rattle.geom.specs.Matrix.{translation, product}
 use Rattle.geom.specs.Root.{side_or_full}
-use Rattle.geom.specs.Size.{valid_rect}
+use Rattle.geom.specs.Size.{valid_rect, size_of}
 use Rattle.geom.specs.declared.length.Direction.{Direction}
 use Rattle.geom.specs.declared.length.Direction.TheVariants.{Across, Down}
 use Rattle.geom.specs.declared.length.Length.{Length}
 use Rattle.geom.specs.declared.matrix.Matrix.{Matrix}
 use Rattle.geom.specs.declared.rect.Rect.{Rect}
 use Rattle.geom.specs.declared.rect.Ruler.{Ruler}
-use Rattle.geom.specs.declared.rect.Size.{Size}
-use Rattle.geom.specs.declared.view_box.Aspect.{Aspect}
-use Rattle.element.specs.Attributes.{length_of}
+use Rattle.geom.specs.declared.view_box.ViewBox.{ViewBox}
+use Rattle.element.specs.Attributes.{length_of, view_box_of, aspect_of}
 use Rattle.element.specs.declared.element.Element.{Element}
 use Rattle.element.specs.declared.value.Attribute.TheVariants.{X, Y, Width, Height}
 use Rattle.converter.specs.declared.state.State.{State}
@@ -44,17 +44,17 @@ resolved_rect e sizes s =
       h = side s Down sizes.1 (length_of e Height);
     }
 
-abbrev pub size_of : Rect → Size
-size_of r = record { w = r.w; h = r.h }
+-- the view box and how it is fitted, where there is one
+unfoldable pub fitted_view_box : Element → Option ViewBox
+fitted_view_box e = option_map (λ r. record { rect = r; aspect = aspect_of e }) (view_box_of e)
 
 -- The place of the content in its rectangle: the translation to its corner, and within that the fit of the view box.
 -- With no view box, or no valid size to fit it into, the translation alone.
-unfoldable pub placing : Rect → Option Rect → Aspect → Matrix
-placing r option.None aspect = translation r.x r.y
-placing r (option.Some v) aspect =
-    cond (valid_rect r) (product (translation r.x r.y) (fit (record { rect = v; aspect = aspect }) (size_of r))) (translation r.x r.y)
+unfoldable pub placing : Rect → Option ViewBox → Matrix
+placing r option.None = translation r.x r.y
+placing r (option.Some v) = cond (valid_rect r) (product (translation r.x r.y) (fit v (size_of r))) (translation r.x r.y)
 
 -- the viewport inside: the view box, else the valid size, else the one outside
-unfoldable pub viewport : Option Rect → Rect → Ruler → Ruler
+unfoldable pub viewport : Option ViewBox → Rect → Ruler → Ruler
 viewport option.None r outside = cond (valid_rect r) (record { w = r.w; h = r.h; f = outside.f }) outside
-viewport (option.Some v) r outside = record { w = v.w; h = v.h; f = outside.f }
+viewport (option.Some v) r outside = record { w = v.rect.w; h = v.rect.h; f = outside.f }

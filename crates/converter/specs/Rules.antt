@@ -10,18 +10,19 @@ use Rattle.geom.specs.Matrix.{identity, translation, product, finite_matrix, is_
 use Rattle.geom.specs.Size.{finite_rect}
 use Rattle.geom.specs.declared.length.Direction.TheVariants.{Across, Down}
 use Rattle.geom.specs.declared.matrix.Matrix.{Matrix}
+use Rattle.geom.specs.declared.options.Options.{Options}
 use Rattle.geom.specs.declared.rect.Rect.{Rect}
 use Rattle.geom.specs.declared.rect.Ruler.{Ruler}
 use Rattle.geom.specs.declared.rect.Size.{Size}
 use Rattle.record.specs.declared.Group.{Group}
-use Rattle.element.specs.Attributes.{length_of, matrix_of, opacity_of, id_of, view_box_of, aspect_of}
+use Rattle.element.specs.Attributes.{length_of, matrix_of, opacity_of, id_of, view_box_of}
 use Rattle.element.specs.declared.element.Element.{Element}
 use Rattle.element.specs.declared.value.Attribute.TheVariants.{X, Y, Width, Height}
 use Rattle.element.specs.declared.value.Role.{Role}
 use Rattle.element.specs.declared.value.Role.TheVariants as role
 use Rattle.element.specs.Roles.{role_of}
 use Rattle.converter.specs.State.{ruled, sized, framed}
-use Rattle.converter.specs.Rectangle.{measured, position, resolved_rect, placing, viewport}
+use Rattle.converter.specs.Rectangle.{measured, position, resolved_rect, fitted_view_box, placing, viewport}
 use Rattle.converter.specs.Clip.{svg_clip, symbol_clip}
 use Rattle.converter.specs.Groups.{group, clip_group, spare, if_finite}
 use Rattle.converter.specs.declared.state.State.{State}
@@ -54,9 +55,9 @@ finite_placing T N (option.Some clip) = finite_matrix N && finite_matrix T
 unfoldable pub convert_svg : Element → State → Result Converted Refusal
 convert_svg e s =
     let r = resolved_rect e s.use_size s in
-    let N = placing r (view_box_of e) (aspect_of e) in
+    let N = placing r (fitted_view_box e) in
     let clip = svg_clip e s r in
-    if_finite (finite_rect r && finite_placing (matrix_of e) N clip) (svg_groups e N clip (ruled s (viewport (view_box_of e) r s.ruler)))
+    if_finite (finite_rect r && finite_placing (matrix_of e) N clip) (svg_groups e N clip (ruled s (viewport (fitted_view_box e) r s.ruler)))
 
 -- the groups of a use of a symbol: the symbol's own group, inside, has the placing N, and T too where there is no clip
 unfoldable pub use_symbol_groups : Element → Matrix → Option Rect → State → Ruler → Converted
@@ -73,9 +74,9 @@ use_symbol_groups e N (option.Some clip) s ruler =
 unfoldable pub convert_use_symbol : Element → Element → State → Result Converted Refusal
 convert_use_symbol e symbol s =
     let r = resolved_rect e (option.None, option.None) s in
-    let N = placing r (view_box_of symbol) (aspect_of symbol) in
+    let N = placing r (fitted_view_box symbol) in
     let clip = symbol_clip symbol r in
-    if_finite (finite_rect r && finite_placing (matrix_of e) N clip) (use_symbol_groups e N clip s (viewport (view_box_of symbol) r s.ruler))
+    if_finite (finite_rect r && finite_placing (matrix_of e) N clip) (use_symbol_groups e N clip s (viewport (fitted_view_box symbol) r s.ruler))
 
 -- the sizes that a use hands to a child svg, and to no other child
 unfoldable pub use_size : Element → Role → State → Option Float × Option Float
@@ -136,7 +137,7 @@ convert_group e child s = convert_as (role_of e.kind) e child s
 
 -- the fit of the root's view box into its size, or the identity with no view box
 unfoldable pub root_fit : Element → Size → Matrix
-root_fit e size = unwrap_or (option_map (λ v. fit (record { rect = v; aspect = aspect_of e }) size) (view_box_of e)) identity
+root_fit e size = unwrap_or (option_map (λ v. fit v size) (fitted_view_box e)) identity
 
 -- the group of the root's fit, unless that is the identity
 unfoldable pub root_group : Matrix → Option Group
@@ -147,12 +148,12 @@ unfoldable pub root_viewport : Element → Size → Float → Ruler
 root_viewport e size F = unwrap_or (option_map (λ v. record { w = v.w; h = v.h; f = F }) (view_box_of e)) (record { w = size.w; h = size.h; f = F })
 
 -- the root of this size opens the fit of its view box, and in it a spare group
-unfoldable pub convert_root : Element → Size → Float → Float → Result Converted Refusal
-convert_root e size dpi F =
+unfoldable pub convert_root : Element → Size → Options → Result Converted Refusal
+convert_root e size options =
     let m = root_fit e size in
     if_finite (finite_matrix m)
     (record {
       outer = root_group m;
       inner = spare (matrix_of e) identity (opacity_of e);
-      inside = record { ruler = root_viewport e size F; dpi = dpi; use_size = (option.None, option.None); symbol_matrix = identity };
+      inside = record { ruler = root_viewport e size options.font_size; dpi = options.dpi; use_size = (option.None, option.None); symbol_matrix = identity };
     })

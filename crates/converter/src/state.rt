@@ -4,7 +4,7 @@ ghost use Rattle.converter.specs.State.{ruled, sized, framed};
 use geom::{Matrix, Ruler};
 
 /// What holds outside an element.
-#[derive(Clone, Copy)]
+#[derive(Clone, Copy, PartialEq, Debug)]
 pub struct State {
     /// The viewport's sides and the font size.
     pub ruler: Ruler,
@@ -17,6 +17,7 @@ pub struct State {
 
 impl State {
     /// The state inside an element that hands nothing on to its children but a ruler.
+    #[tactic(auto, unfolding(crate::specs::State::ruled))]
     pub fn ruled(&self, ruler: Ruler) -> State
         ensures { result ≡ ruled self.now ruler }
     {
@@ -24,26 +25,26 @@ impl State {
     }
 
     /// The state inside a use that hands these sizes to its child.
+    #[tactic(auto, unfolding(crate::specs::State::sized, crate::specs::State::ruled, crate::specs::State::framed))]
     pub fn sized(&self, use_size: (Option<f32>, Option<f32>)) -> State
         ensures { result ≡ sized self.now use_size }
     {
         State {
-            ruler: self.ruler,
-            dpi: self.dpi,
             use_size,
-            symbol_matrix: Matrix::default(),
+            ..self.ruled(self.ruler)
         }
     }
 
     /// The state inside a use of a symbol whose own group is to have this matrix.
+    #[tactic(auto, unfolding(crate::specs::State::framed))]
     pub fn framed(&self, ruler: Ruler, symbol_matrix: Matrix) -> State
         ensures { result ≡ framed self.now ruler symbol_matrix }
     {
         State {
             ruler,
-            dpi: self.dpi,
             use_size: (None, None),
             symbol_matrix,
+            ..*self
         }
     }
 }

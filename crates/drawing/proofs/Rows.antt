@@ -1,91 +1,73 @@
--- Reading rows of words off a line.
-use Rattle.std.proofs.Common.{◌≡◌, ℕ, Bool, true, false, cond, List, [], ◌∷◌, ◌++◌, length, is_some, IsErrAnd, Some, None, Ok, Err, Option, Result, sym, refl, ap, ◌∙◌, subst, arith, MatchOption}
-use Rattle.std.specs.Option.{ok_or}
-use Rattle.std.proofs.lemmas.Bool.{cond-true, cond-false}
-use Rattle.notation.specs.Words.{first_word, past_word, past_words}
-use Rattle.drawing.specs.Grammar.{fits, missing, Reading, Part}
+-- Rows of words.
+use Rattle.std.proofs.Common.{◌≡◌, ◌≢◌, set, get_or-set_other, get_or-set_same, below_more, subst, ℕ, zero, suc, ◌+◌, ◌-◌, ◌<◌, ◌≤◌, length-set, add-one, List, [], ◌∷◌, ◌++◌, length, get_or, replicate, Some, None, Float, sym, refl, ap, ◌∙◌, arith}
+use Rattle.std.proofs.lemmas.List.{length-replicate}
+use Rattle.notation.specs.Words.{word, first_word, past_word, past_words}
+use Rattle.notation.specs.Numbers.{Number}
+use Rattle.drawing.specs.Grammar.{missing}
+use Rattle.drawing.specs.Values.{NumbersAt}
 use Rattle.drawing.specs.declared.expected.Expected.{Expected}
+use Rattle.drawing.specs.declared.expected.Expected.TheVariants as expected
 
--- ONE WORD
+-- A ROW AND WHAT FOLLOWS IT
 
-pub there : (e : Expected) (line w : List ℕ) → w ≡ first_word line → fits e w ≡ true → missing (e ∷ []) line ≡ None
-unfolding missing
-there e line w is f = cond-true _ _ _ (ap (fits e) (sym is) ∙ f)
-
-pub lacking : (e : Expected) (line w : List ℕ) → w ≡ first_word line → fits e w ≡ false → missing (e ∷ []) line ≡ Some e
-unfolding missing
-lacking e line w is f = cond-false _ _ _ (ap (fits e) (sym is) ∙ f)
-
--- what stands for a word, or what is expected
-pub slot : {A : Type 0} (e : Expected) (Means : List ℕ → A → Type 0) (line w rest : List ℕ) (o : Option A) (r : Result A Expected)
-    → w ≡ first_word line → rest ≡ past_word line → r ≡ ok_or o e
-    → MatchOption o (fits e w ≡ false) (λ x. (fits e w ≡ true) × Means w x)
-    → Part (e ∷ []) (λ l x. Means (first_word l) x) line rest r
-slot {A} e Means line w rest None r is past answer h =
-    subst (λ (q : Result A Expected). Part (e ∷ []) (λ l x. Means (first_word l) x) line rest q) (sym answer) (lacking e line w is h)
-slot {A} e Means line w rest (Some x) r is past answer h =
-    subst (λ (q : Result A Expected). Part (e ∷ []) (λ l x. Means (first_word l) x) line rest q) (sym answer)
-    (there e line w is h.0, (subst (λ (t : List ℕ). Means t x) is h.1, past))
-
-pub option_slot : {A : Type 0} (e : Expected) (f : List ℕ → Option A) (line w rest : List ℕ) (o : Option A) (r : Result A Expected)
-    → ((t : List ℕ) → fits e t ≡ is_some (f t))
-    → w ≡ first_word line → rest ≡ past_word line → o ≡ f w → r ≡ ok_or o e
-    → Part (e ∷ []) (λ l x. f (first_word l) ≡ Some x) line rest r
-option_slot {A} e f line w rest o r test is past found answer =
-    slot e (λ t x. f t ≡ Some x) line w rest o r is past answer (go o found)
-  where
-    go : (p : Option A) → p ≡ f w → MatchOption p (fits e w ≡ false) (λ x. (fits e w ≡ true) × (f w ≡ Some x))
-    go None e' = test w ∙ ap is_some (sym e')
-    go (Some x) e' = (test w ∙ ap is_some (sym e'), sym e')
-
--- SEVERAL WORDS
-
--- xs stand in the line, and rest is left
-abbrev pub Sofar : List Expected → List ℕ → List ℕ → Type 0
-Sofar xs line rest = (missing xs line ≡ None) × (rest ≡ past_words (length xs) line)
-
-pub start : (line : List ℕ) → Sofar [] line line
-unfolding missing
-start line = (refl, refl)
-
-goes_on : (xs ys : List Expected) (line : List ℕ) → missing xs line ≡ None → missing (xs ++ ys) line ≡ missing ys (past_words (length xs) line)
+pub goes_on : (xs ys : List Expected) (line : List ℕ) → missing xs line ≡ None → missing (xs ++ ys) line ≡ missing ys (past_words (length xs) line)
 unfolding missing
 goes_on [] ys line m = refl
-goes_on (x ∷ xs) ys line m = go (fits x (first_word line)) (goes_on xs ys (past_word line)) m
-  where
-    go : (b : Bool) → (missing xs (past_word line) ≡ None → missing (xs ++ ys) (past_word line) ≡ missing ys (past_words (length xs) (past_word line))) → cond b (missing xs (past_word line)) (Some x) ≡ None → cond b (missing (xs ++ ys) (past_word line)) (Some x) ≡ missing ys (past_words (length xs) (past_word line))
-    go true h m = h m
-    go false h m = let z : ◌≡◌ {A = ℕ} 0 1 = cc in absurd (omega arith)
+goes_on (x ∷ xs) ys line m = grind (arith, goes_on xs ys (past_word line))
 
-stops : (xs ys : List Expected) (line : List ℕ) (e : Expected) → missing xs line ≡ Some e → missing (xs ++ ys) line ≡ Some e
+pub stops : (xs ys : List Expected) (line : List ℕ) (e : Expected) → missing xs line ≡ Some e → missing (xs ++ ys) line ≡ Some e
 unfolding missing
-stops [] ys line e m = let z : ◌≡◌ {A = ℕ} 0 1 = cc in absurd (omega arith)
-stops (x ∷ xs) ys line e m = go (fits x (first_word line)) (stops xs ys (past_word line) e) m
-  where
-    go : (b : Bool) → (missing xs (past_word line) ≡ Some e → missing (xs ++ ys) (past_word line) ≡ Some e) → cond b (missing xs (past_word line)) (Some x) ≡ Some e → cond b (missing (xs ++ ys) (past_word line)) (Some x) ≡ Some e
-    go true h m = h m
-    go false h m = m
+stops [] ys line e m = cc
+stops (x ∷ xs) ys line e m = grind (arith, stops xs ys (past_word line) e)
 
-past_both : (xs ys : List Expected) (line : List ℕ) → past_words (length ys) (past_words (length xs) line) ≡ past_words (length (xs ++ ys)) line
-past_both [] ys line = refl
-past_both (x ∷ xs) ys line = past_both xs ys (past_word line)
+-- n NUMBERS
 
--- ys follow
-pub more : (xs ys : List Expected) (line rest next : List ℕ) → Sofar xs line rest → Sofar ys rest next → Sofar (xs ++ ys) line next
-more xs ys line rest next h k = (
-  goes_on xs ys line h.0 ∙ ap (missing ys) (sym h.1) ∙ k.0,
-  k.1 ∙ ap (past_words (length ys)) h.1 ∙ past_both xs ys line,
-)
+past_next : (k : ℕ) (line : List ℕ) → past_word (past_words k line) ≡ past_words (suc k) line
+past_next zero line = refl
+past_next (suc k) line = past_next k (past_word line)
 
--- one of ys is missing
-pub fails : (xs ys zs : List Expected) (line rest : List ℕ) (e : Expected) → Sofar xs line rest → missing ys rest ≡ Some e → missing (xs ++ (ys ++ zs)) line ≡ Some e
-fails xs ys zs line rest e h m = goes_on xs (ys ++ zs) line h.0 ∙ ap (missing (ys ++ zs)) (sym h.1) ∙ stops ys zs rest e m
+numbers_at : (xs : List Float) (line : List ℕ) → ((i : ℕ) (d : Float) → i < length xs → Number (word i line) (get_or xs i d)) → NumbersAt line xs
+numbers_at [] line h = tt
+numbers_at (x ∷ xs) line h = (h 0 x (omega arith), numbers_at xs (past_word line) (λ i d l. h (suc i) d (omega arith)))
 
--- what is said of the rest is said of the words there
-pub said : {A : Type 0} (Means : List ℕ → A → Type 0) (x : A) (line rest : List ℕ) → rest ≡ line → Means rest x → Means line x
-said Means x line rest e h = subst (λ (l : List ℕ). Means l x) e h
+-- of n numbers the line's first k stand in xs, and rest is left
+pub record IsPartlyRead (n k : ℕ) (line rest : List ℕ) (xs : List Float) : Type 0 where
+  pub missing_yet : missing (replicate n expected.Number) line ≡ missing (replicate (n - k) expected.Number) rest
+  pub passed : rest ≡ past_words k line
+  pub long : length xs ≡ n
+  pub read : (i : ℕ) (d : Float) → i < k → Number (word i line) (get_or xs i d)
 
--- the exit of a `?`
-pub breaks : {A : Type 0} (m : Option Expected) (Means : A → Type 0) (r : Result A Expected) (e : Expected) → IsErrAnd r (λ y. y ≡ e) → m ≡ Some e → Reading m Means r
-breaks m Means (Ok x) e h is = absurd h
-breaks m Means (Err y) e h is = is ∙ ap (λ (z : Expected). Some z) (sym h)
+module _ {n k : ℕ} {line rest : List ℕ} {xs : List Float} (h : IsPartlyRead n k line rest xs) where
+  module _ (inside : k < n) where
+    one_left : n - k ≡ suc (n - (k + 1))
+    one_left = omega arith
+
+    pub one_lacking : (e : Expected) → missing (expected.Number ∷ []) rest ≡ Some e → missing (replicate n expected.Number) line ≡ Some e
+    one_lacking e m =
+        h.missing_yet
+        ∙ ap (λ (j : ℕ). missing (replicate j expected.Number) rest) one_left
+        ∙ stops (expected.Number ∷ []) (replicate (n - (k + 1)) expected.Number) rest e m
+
+    pub one_more : (next : List ℕ) (x : Float) → (missing (expected.Number ∷ []) rest ≡ None) × (Number (word 0 rest) x × (next ≡ past_word rest)) → IsPartlyRead n (k + 1) line next (set xs k x)
+    one_more next x m = record {
+      missing_yet =
+          h.missing_yet
+          ∙ ap (λ (j : ℕ). missing (replicate j expected.Number) rest) one_left
+          ∙ goes_on (expected.Number ∷ []) (replicate (n - (k + 1)) expected.Number) rest m.0
+          ∙ ap (missing (replicate (n - (k + 1)) expected.Number)) (sym m.1.1);
+      passed = m.1.1 ∙ ap past_word h.passed ∙ past_next k line ∙ ap (λ (j : ℕ). past_words j line) (sym (add-one k));
+      long = length-set xs k x ∙ h.long;
+      read = λ i d. below_more (λ j. Number (word j line) (get_or (set xs k x) j d)) k
+          (λ j l. let apart : j ≢ k = omega arith in rw get_or-set_other (h.read j d l))
+          (let within : k < length xs = omega (arith, h.long) in rw get_or-set_same (subst (λ (t : List ℕ). Number (first_word t) x) h.passed m.1.0))
+          i;
+    }
+
+  pub all_read : n ≤ k → k ≤ n → (missing (replicate n expected.Number) line ≡ None) × (NumbersAt line xs × (rest ≡ past_words (length (replicate n expected.Number)) line))
+  unfolding missing
+  all_read above below =
+      let none_left : n - k ≡ 0 = omega arith in
+      let last : k ≡ length (replicate n expected.Number) = omega (arith, length-replicate n expected.Number) in (
+        h.missing_yet ∙ ap (λ (j : ℕ). missing (replicate j expected.Number) rest) none_left,
+        (numbers_at xs line (λ i d l. h.read i d (omega (arith, h.long))), h.passed ∙ ap (λ (j : ℕ). past_words j line) last),
+      )

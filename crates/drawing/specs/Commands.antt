@@ -74,8 +74,8 @@ Said line (command.Measure length direction ruler dpi) =
     LengthAt line length × DirectionAt (past_words 1 line) direction × RulerAt (past_words 2 line) ruler × NumberAt (past_words 5 line) dpi
 Said line (command.Fit view-box size) =
     RectAt line view-box.rect × AspectAt (past_words 4 line) view-box.aspect × SizeAt (past_words 6 line) size
-Said line (command.New dpi font_size nodes) =
-    NumberAt line dpi × NumberAt (past_words 1 line) font_size × (nodes ≡ whole_number (word 2 line))
+Said line (command.New options nodes) =
+    NumberAt line options.dpi × NumberAt (past_words 1 line) options.font_size × (nodes ≡ whole_number (word 2 line))
 Said line (command.Edit (call.Add parent kind)) = WholeNumberAt line parent × KindAt (past_words 1 line) kind
 Said line (command.Edit (call.Set node a value)) = WholeNumberAt line node × AttributeAt (past_words 1 line) a × ValueSaid a (past_words 2 line) value
 Said line (command.Edit (call.Unset node a)) = WholeNumberAt line node × AttributeAt (past_words 1 line) a
@@ -84,7 +84,7 @@ Said line command.Size = Unit {0}
 abbrev pub name_of : Order → List ℕ
 name_of (command.Measure length direction ruler dpi) = codes "measure"
 name_of (command.Fit view-box size) = codes "fit"
-name_of (command.New dpi font_size nodes) = codes "new"
+name_of (command.New options nodes) = codes "new"
 name_of (command.Edit (call.Add parent kind)) = codes "add"
 name_of (command.Edit (call.Set node a value)) = codes "set"
 name_of (command.Edit (call.Unset node a)) = codes "unset"

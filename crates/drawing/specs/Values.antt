@@ -27,6 +27,11 @@ use Rattle.notation.specs.declared.form.Form.TheVariants as form
 abbrev pub NumberAt : List ℕ → Float → Type 0
 NumberAt line x = Number (word 0 line) x
 
+-- one after another
+abbrev pub NumbersAt : List ℕ → List Float → Type 0
+NumbersAt line [] = Unit {0}
+NumbersAt line (x ∷ xs) = NumberAt line x × NumbersAt (past_word line) xs
+
 abbrev pub LengthAt : List ℕ → Length → Type 0
 LengthAt line l = WrittenLength (word 0 line) l
 

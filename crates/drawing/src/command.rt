@@ -1,5 +1,7 @@
 //! Commands, and reading them off a line.
 
+#![tactic(auto, unfolding(crate::specs::Grammar::missing, crate::specs::Grammar::fits, notation::specs::Lengths::a_length))]
+
 ghost use Rattle.std.specs.Prelude.{◌≡◌, codes};
 ghost use Rattle.notation.specs.Names.{named};
 ghost use Rattle.notation.specs.Words.{first_word};
@@ -9,8 +11,8 @@ ghost use Rattle.drawing.specs.Commands.{measure_words, fit_words, new_missing, 
 
 use crate::expected::Expected;
 use crate::words::Words;
-use geom::{Direction, Length, Ruler, Size, ViewBox};
-use notation::first_word;
+use geom::{Direction, Length, Options, Ruler, Size, ViewBox};
+use notation::{attribute_of, direction_of, first_word, kind_of, length_of, whole_number_of};
 use svgtree::Call;
 
 /// What a line asks for.
@@ -30,8 +32,7 @@ pub enum Command {
     },
     /// A new document, in memory for so many nodes or for as many as a document may have.
     New {
-        dpi: f32,
-        font_size: f32,
+        options: Options,
         nodes: Option<u32>,
     },
     /// A call that edits the document.
@@ -42,11 +43,11 @@ pub enum Command {
 
 // Each of these reads what stands behind the command's name.
 
-fn measure<'a>(words: &mut Words<'a>) -> Result<Command, Expected>
-    ensures { Reading (missing measure_words words.old.rest.now) (Told (codes "measure") words.old.rest.now) result }
+fn measure(words: &mut Words<'_>) -> Result<Command, Expected>
+    ensures { Reading (missing measure_words words.old) (Told (codes "measure") words.old) result }
 {
-    let length = words.length()?;
-    let direction = words.direction()?;
+    let length = words.read(length_of, Expected::Length)?;
+    let direction = words.read(direction_of, Expected::Direction)?;
     let ruler = words.ruler()?;
     let dpi = words.number()?;
     words.end()?;
@@ -58,8 +59,8 @@ fn measure<'a>(words: &mut Words<'a>) -> Result<Command, Expected>
     })
 }
 
-fn fit<'a>(words: &mut Words<'a>) -> Result<Command, Expected>
-    ensures { Reading (missing fit_words words.old.rest.now) (Told (codes "fit") words.old.rest.now) result }
+fn fit(words: &mut Words<'_>) -> Result<Command, Expected>
+    ensures { Reading (missing fit_words words.old) (Told (codes "fit") words.old) result }
 {
     let rect = words.rect()?;
     let aspect = words.aspect()?;
@@ -70,44 +71,42 @@ fn fit<'a>(words: &mut Words<'a>) -> Result<Command, Expected>
 }
 
 // How many nodes the memory holds, where the line says it.
-fn nodes<'a>(words: &mut Words<'a>) -> Result<Option<u32>, Expected>
-    ensures { Reading (nodes_missing words.old.rest.now) (λ n. n ≡ whole_number (first_word words.old.rest.now)) result }
+#[tactic(auto, using(crate::proofs::Optional::no_whole_number), unfolding(crate::specs::Grammar::missing, crate::specs::Grammar::fits))]
+fn nodes(words: &mut Words<'_>) -> Result<Option<u32>, Expected>
+    ensures { Reading (nodes_missing words.old) (λ n. n ≡ whole_number (first_word words.old)) result }
 {
     if first_word(words.rest).0.is_empty() {
         return Ok(None);
     }
-    let count = words.whole_number()?;
+    let count = words.read(whole_number_of, Expected::WholeNumber)?;
     words.end()?;
     Ok(Some(count))
 }
 
-fn document<'a>(words: &mut Words<'a>) -> Result<Command, Expected>
-    ensures { Reading (new_missing words.old.rest.now) (Told (codes "new") words.old.rest.now) result }
+fn document(words: &mut Words<'_>) -> Result<Command, Expected>
+    ensures { Reading (new_missing words.old) (Told (codes "new") words.old) result }
 {
-    let dpi = words.number()?;
-    let font_size = words.number()?;
+    let [dpi, font_size] = words.numbers::<2>()?;
     let nodes = nodes(words)?;
-    Ok(Command::New {
-        dpi,
-        font_size,
-        nodes,
-    })
+    let options = Options { dpi, font_size };
+    Ok(Command::New { options, nodes })
 }
 
-fn add<'a>(words: &mut Words<'a>) -> Result<Command, Expected>
-    ensures { Reading (missing add_words words.old.rest.now) (Told (codes "add") words.old.rest.now) result }
+fn add(words: &mut Words<'_>) -> Result<Command, Expected>
+    ensures { Reading (missing add_words words.old) (Told (codes "add") words.old) result }
 {
-    let parent = words.whole_number()?;
-    let kind = words.kind()?;
+    let parent = words.read(whole_number_of, Expected::WholeNumber)?;
+    let kind = words.read(kind_of, Expected::Kind)?;
     words.end()?;
     Ok(Command::Edit(Call::Add { parent, kind }))
 }
 
-fn set<'a>(words: &mut Words<'a>) -> Result<Command, Expected>
-    ensures { Reading (set_missing words.old.rest.now) (Told (codes "set") words.old.rest.now) result }
+#[tactic(auto, using(crate::proofs::Rows::goes_on, crate::proofs::Rows::stops), unfolding(crate::specs::Grammar::missing, crate::specs::Grammar::fits))]
+fn set(words: &mut Words<'_>) -> Result<Command, Expected>
+    ensures { Reading (set_missing words.old) (Told (codes "set") words.old) result }
 {
-    let node = words.whole_number()?;
-    let attribute = words.attribute()?;
+    let node = words.read(whole_number_of, Expected::WholeNumber)?;
+    let attribute = words.read(attribute_of, Expected::Attribute)?;
     let form = words.form(attribute)?;
     let value = words.value(form)?;
     words.end()?;
@@ -118,25 +117,26 @@ fn set<'a>(words: &mut Words<'a>) -> Result<Command, Expected>
     }))
 }
 
-fn unset<'a>(words: &mut Words<'a>) -> Result<Command, Expected>
-    ensures { Reading (missing unset_words words.old.rest.now) (Told (codes "unset") words.old.rest.now) result }
+fn unset(words: &mut Words<'_>) -> Result<Command, Expected>
+    ensures { Reading (missing unset_words words.old) (Told (codes "unset") words.old) result }
 {
-    let node = words.whole_number()?;
-    let attribute = words.attribute()?;
+    let node = words.read(whole_number_of, Expected::WholeNumber)?;
+    let attribute = words.read(attribute_of, Expected::Attribute)?;
     words.end()?;
     Ok(Command::Edit(Call::Unset { node, attribute }))
 }
 
-fn size<'a>(words: &mut Words<'a>) -> Result<Command, Expected>
-    ensures { Reading (missing size_words words.old.rest.now) (Told (codes "size") words.old.rest.now) result }
+fn size(words: &mut Words<'_>) -> Result<Command, Expected>
+    ensures { Reading (missing size_words words.old) (Told (codes "size") words.old) result }
 {
     words.end()?;
     Ok(Command::Size)
 }
 
 // The command of this name.
-fn read_command<'a>(name: &str, words: &mut Words<'a>) -> Result<Command, Expected>
-    ensures { Reading (missing_behind (named commands name.now) words.old.rest.now) (Told name.now words.old.rest.now) result }
+#[tactic(auto, using(notation::proofs::Naming::other_text))]
+fn read_command(name: &str, words: &mut Words<'_>) -> Result<Command, Expected>
+    ensures { Reading (missing_behind (named commands name.now) words.old) (Told name.now words.old) result }
 {
     match name {
         "measure" => measure(words),
@@ -151,18 +151,15 @@ fn read_command<'a>(name: &str, words: &mut Words<'a>) -> Result<Command, Expect
 }
 
 // Whether a line with this first word says nothing: it is blank, a comment, or an answer.
+#[tactic(auto, using(notation::proofs::Naming::other_text))]
 fn is_passed_over(word: &str) -> bool
     ensures { result ≡ says_nothing word.now }
 {
-    match word {
-        "" => true,
-        ">" => true,
-        "<" => true,
-        _ => false,
-    }
+    matches!(word, "" | ">" | "<")
 }
 
 /// What a line asks for, or what it lacks. A line that is blank, a comment or an answer asks for nothing.
+#[tactic(auto, unfolding(crate::specs::Commands::line_missing))]
 pub fn read_line(line: &str) -> Result<Option<Command>, Expected>
     ensures { Reading (line_missing line.now) (LineSaid line.now) result }
 {
@@ -171,6 +168,5 @@ pub fn read_line(line: &str) -> Result<Option<Command>, Expected>
     if is_passed_over(name) {
         return Ok(None);
     }
-    let command = read_command(name, &mut words)?;
-    Ok(Some(command))
+    read_command(name, &mut words).map(Some)
 }

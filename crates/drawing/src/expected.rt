@@ -3,10 +3,11 @@
 ghost use Rattle.std.specs.Prelude.{◌≡◌, Some};
 ghost use Rattle.drawing.specs.Messages.{expected_words, unreadable_text};
 
+use std::error::Error;
 use std::fmt;
 
 /// What a word of a line should have been.
-#[derive(Clone, Copy, PartialEq, Eq)]
+#[derive(Clone, Copy, PartialEq, Eq, Debug)]
 pub enum Expected {
     Command,
     Length,
@@ -47,8 +48,18 @@ impl Expected {
     }
 }
 
+impl fmt::Display for Expected {
+    ghost output = { λ e. Some (expected_words e) };
+
+    fn fmt<W: fmt::Write>(&self, f: &mut fmt::Formatter<W>) -> fmt::Result {
+        f.write_str(self.words())
+    }
+}
+
+impl Error for Expected {}
+
 /// A line that can't be read: its number, and what was expected in it.
-#[derive(Clone, Copy)]
+#[derive(Clone, Copy, PartialEq, Eq, Debug)]
 pub struct Unreadable {
     pub line: u64,
     pub expected: Expected,
@@ -58,6 +69,8 @@ impl fmt::Display for Unreadable {
     ghost output = { λ u. Some (unreadable_text u) };
 
     fn fmt<W: fmt::Write>(&self, f: &mut fmt::Formatter<W>) -> fmt::Result {
-        write!(f, "line {}: expected {}", self.line, self.expected.words())
+        write!(f, "line {}: expected {}", self.line, self.expected)
     }
 }
+
+impl Error for Unreadable {}

@@ -1,67 +1,73 @@
 //! Reading what takes several words: sizes, rulers, rectangles, matrices, aspects and attributes' values.
 
-ghost use Rattle.std.specs.Prelude.{◌≡◌, [], ◌∷◌, Some};
+#![tactic(auto, unfolding(crate::specs::Grammar::missing, crate::specs::Grammar::fits))]
+
+ghost use Rattle.std.specs.Prelude.{◌≡◌, [], ◌∷◌, Some, replicate};
 ghost use Rattle.drawing.specs.Grammar.{Part, Reading};
-ghost use Rattle.drawing.specs.Values.{SizeAt, RulerAt, RectAt, MatrixAt, AspectAt, ValueAt, words_of, own_form, form_at, past_form, form_missing};
+ghost use Rattle.drawing.specs.Values.{NumberAt, NumbersAt, SizeAt, RulerAt, RectAt, MatrixAt, AspectAt, ValueAt, words_of, own_form, form_at, past_form, form_missing};
 ghost use Rattle.drawing.specs.declared.expected.Expected.TheVariants as expected;
 
 use crate::expected::Expected;
 use crate::words::Words;
 use element::{Attribute, Value};
 use geom::{Aspect, Matrix, Rect, Ruler, Size};
-use notation::{Form, first_word, form_of};
+use notation::{Form, align_of, first_word, form_of, length_of, number_of, slice_of};
 
-impl<'a> Words<'a> {
-    pub(crate) fn size(&mut self) -> Result<Size, Expected>
-        ensures { Part (expected.Number ∷ expected.Number ∷ []) SizeAt self.old.rest.now self.new.rest.now result }
+impl Words<'_> {
+    pub(crate) fn number(&mut self) -> Result<f32, Expected>
+        ensures { Part (expected.Number ∷ []) NumberAt self.old self.new result }
     {
-        let w = self.number()?;
-        let h = self.number()?;
+        self.read(number_of, Expected::Number)
+    }
+
+    /// The next `N` words as numbers.
+    pub(crate) fn numbers<const N: usize>(&mut self) -> Result<[f32; N], Expected>
+        ensures { Part (replicate N expected.Number) NumbersAt self.old self.new result }
+    {
+        let mut numbers = [0.0; N];
+        for number in numbers.iter_mut() {
+            *number = self.number()?;
+        }
+        Ok(numbers)
+    }
+
+    pub(crate) fn size(&mut self) -> Result<Size, Expected>
+        ensures { Part (replicate 2 expected.Number) SizeAt self.old self.new result }
+    {
+        let [w, h] = self.numbers::<2>()?;
         Ok(Size { w, h })
     }
 
     pub(crate) fn ruler(&mut self) -> Result<Ruler, Expected>
-        ensures { Part (expected.Number ∷ expected.Number ∷ expected.Number ∷ []) RulerAt self.old.rest.now self.new.rest.now result }
+        ensures { Part (replicate 3 expected.Number) RulerAt self.old self.new result }
     {
-        let w = self.number()?;
-        let h = self.number()?;
-        let f = self.number()?;
-        Ok(Ruler { w, h, f })
+        Ok(self.numbers::<3>()?.into())
     }
 
     pub(crate) fn rect(&mut self) -> Result<Rect, Expected>
-        ensures { Part (expected.Number ∷ expected.Number ∷ expected.Number ∷ expected.Number ∷ []) RectAt self.old.rest.now self.new.rest.now result }
+        ensures { Part (replicate 4 expected.Number) RectAt self.old self.new result }
     {
-        let x = self.number()?;
-        let y = self.number()?;
-        let w = self.number()?;
-        let h = self.number()?;
-        Ok(Rect { x, y, w, h })
+        Ok(self.numbers::<4>()?.into())
     }
 
     fn matrix(&mut self) -> Result<Matrix, Expected>
-        ensures { Part (expected.Number ∷ expected.Number ∷ expected.Number ∷ expected.Number ∷ expected.Number ∷ expected.Number ∷ []) MatrixAt self.old.rest.now self.new.rest.now result }
+        ensures { Part (replicate 6 expected.Number) MatrixAt self.old self.new result }
     {
-        let a = self.number()?;
-        let b = self.number()?;
-        let c = self.number()?;
-        let d = self.number()?;
-        let e = self.number()?;
-        let f = self.number()?;
-        Ok(Matrix { a, b, c, d, e, f })
+        Ok(self.numbers::<6>()?.into())
     }
 
     pub(crate) fn aspect(&mut self) -> Result<Aspect, Expected>
-        ensures { Part (expected.Align ∷ expected.Slice ∷ []) AspectAt self.old.rest.now self.new.rest.now result }
+        ensures { Part (expected.Align ∷ expected.Slice ∷ []) AspectAt self.old self.new result }
     {
-        let align = self.align()?;
-        let slice = self.slice()?;
+        let align = self.read(align_of, Expected::Align)?;
+        let slice = self.read(slice_of, Expected::Slice)?;
         Ok(Aspect { align, slice })
     }
 
     /// The form of a value for the attribute: the one that is named behind an `@`, or the attribute's own.
+    #[tactic(auto, using(crate::proofs::Marked::unmarked), unfolding(crate::specs::Values::form_at, crate::specs::Values::past_form))]
     pub(crate) fn form(&mut self, attribute: Attribute) -> Result<Form, Expected>
-        ensures { Reading (form_missing (form_at attribute self.old.rest.now)) (λ f. (form_at attribute self.old.rest.now ≡ Some f) × (self.new.rest.now ≡ past_form self.old.rest.now)) result }
+        ensures { Reading (form_missing (form_at attribute self.old)) (λ f. (form_at attribute self.old ≡ Some f) × (self.new ≡ past_form self.old)) result }
     {
         let (word, rest) = first_word(self.rest);
         let Some(name) = word.strip_prefix('@') else {
@@ -72,53 +78,18 @@ impl<'a> Words<'a> {
     }
 
     /// A value of this form.
+    #[tactic(auto, unfolding(crate::specs::Grammar::missing, crate::specs::Grammar::fits, notation::specs::Lengths::a_length, element::specs::Forms::as_length, element::specs::Forms::as_rect, element::specs::Forms::as_matrix, element::specs::Forms::as_aspect, element::specs::Forms::as_number, element::specs::Forms::as_word))]
     pub(crate) fn value(&mut self, form: Form) -> Result<Value, Expected>
-        ensures { Part (words_of form) (ValueAt form) self.old.rest.now self.new.rest.now result }
+        ensures { Part (words_of form) (ValueAt form) self.old self.new result }
     {
-        match form {
-            Form::Length => {
-                let length = self.length()?;
-                Ok(Value::Length {
-                    number: length.number,
-                    unit: length.unit,
-                })
-            }
-            Form::Box => {
-                let rect = self.rect()?;
-                Ok(Value::Box {
-                    x: rect.x,
-                    y: rect.y,
-                    w: rect.w,
-                    h: rect.h,
-                })
-            }
-            Form::Matrix => {
-                let m = self.matrix()?;
-                Ok(Value::Matrix {
-                    a: m.a,
-                    b: m.b,
-                    c: m.c,
-                    d: m.d,
-                    e: m.e,
-                    f: m.f,
-                })
-            }
-            Form::Aspect => {
-                let aspect = self.aspect()?;
-                Ok(Value::Aspect {
-                    align: aspect.align,
-                    slice: aspect.slice,
-                })
-            }
-            Form::Number => {
-                let number = self.number()?;
-                Ok(Value::Number(number))
-            }
-            Form::Word => {
-                let word = self.word()?;
-                Ok(Value::Word(word))
-            }
-        }
+        Ok(match form {
+            Form::Length => self.read(length_of, Expected::Length)?.into(),
+            Form::Box => self.rect()?.into(),
+            Form::Matrix => self.matrix()?.into(),
+            Form::Aspect => self.aspect()?.into(),
+            Form::Number => self.number()?.into(),
+            Form::Word => self.word()?.into(),
+        })
     }
 }
 

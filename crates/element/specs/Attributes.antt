@@ -1,5 +1,5 @@
 -- The attributes of an element as the rules read them.
-use Rattle.std.specs.Prelude.{ℕ, Bool, true, false, cond, Some, None, Option, slice_index_or, Float}
+use Rattle.std.specs.Prelude.{ℕ, Bool, true, false, cond, replicate, Some, None, Option, slice_index_or, slice_set, Float}
 use Rattle.std.specs.Float.Ieee.{to_unsigned}
 use Rattle.std.specs.Option.{unwrap_or}
 use Rattle.geom.specs.F32.{whole}
@@ -14,6 +14,7 @@ use Rattle.element.specs.Forms.{as_length, as_rect, as_matrix, as_aspect, as_num
 use Rattle.element.specs.declared.element.Element.{Element}
 use Rattle.element.specs.declared.value.Attribute.{Attribute}
 use Rattle.element.specs.declared.value.Attribute.TheVariants as attribute
+use Rattle.element.specs.declared.value.Kind.{Kind}
 use Rattle.element.specs.declared.value.Value.{Value}
 use Rattle.element.specs.declared.word.Word.{Word}
 use Rattle.element.specs.declared.word.Word.TheVariants.{Yes, No, Visible, Auto, Other}
@@ -31,6 +32,14 @@ place_of attribute.Height = 7
 place_of attribute.ViewBox = 8
 place_of attribute.Aspect = 9
 place_of attribute.Overflow = 10
+
+-- an element without attributes
+abbrev pub bare : Kind → Element
+bare kind = record { kind = kind; attributes = replicate 11 None }
+
+-- an element with this value of an attribute, or none
+abbrev pub with_value : Element → Attribute → Option Value → Element
+with_value e a value = record { kind = e.kind; attributes = slice_set e.attributes (place_of a) value }
 
 unfoldable pub value_of : Element → Attribute → Option Value
 value_of e a = slice_index_or e.attributes (place_of a) None

@@ -1,10 +1,10 @@
 ghost use Rattle.std.specs.Prelude.{◌≡◌};
-ghost use Rattle.element.specs.Attributes.{value_of, held, length_of, matrix_of, opacity_of, id_of, view_box_of, aspect_of, hidden, overflows};
-ghost use Rattle.element.specs.Forms.{as_number, as_word};
+ghost use Rattle.element.specs.Attributes.{value_of, held, bare, with_value, matrix_of, opacity_of, id_of, view_box_of, aspect_of, hidden, overflows};
 
+use crate::form::FromValue;
 use crate::value::{ATTRIBUTES, Attribute, Kind, Value};
 use crate::word::Word;
-use geom::{Aspect, Length, Matrix, Rect};
+use geom::{Aspect, Matrix, Rect};
 use record::Id;
 use std::num::saturating_f32_to_u16;
 
@@ -16,100 +16,90 @@ pub struct Element {
 }
 
 impl Element {
+    /// An element without attributes.
+    pub fn new(kind: Kind) -> Element
+        ensures { result ≡ bare kind }
+    {
+        Element {
+            kind,
+            attributes: [None; ATTRIBUTES],
+        }
+    }
+
+    /// The element with this value of the attribute, or without one.
+    pub fn with(self, attribute: Attribute, value: Option<Value>) -> Element
+        ensures { result ≡ with_value self attribute value }
+    {
+        let mut attributes = self.attributes;
+        attributes[attribute.place()] = value;
+        Element { attributes, ..self }
+    }
+
     /// The attribute's value, if it is set.
-    pub fn attribute(&self, attribute: Attribute) -> Option<Value>
+    #[tactic(auto, unfolding(crate::specs::Attributes::value_of))]
+    pub fn value(&self, attribute: Attribute) -> Option<Value>
         ensures { result ≡ value_of self.now attribute }
     {
         self.attributes[attribute.place()]
     }
 
-    /// A length, if it is set.
-    pub fn length(&self, attribute: Attribute) -> Option<Length>
-        ensures { result ≡ length_of self.now attribute }
+    /// What the attribute's value holds, if it is set and of this form.
+    pub fn attribute<T: FromValue>(&self, attribute: Attribute) -> Option<T>
+        ensures { result ≡ held T.held_in (value_of self.now attribute) }
     {
-        match self.attribute(attribute) {
-            Some(value) => value.as_length(),
-            None => None,
-        }
-    }
-
-    fn number(&self, attribute: Attribute) -> Option<f32>
-        ensures { result ≡ held as_number (value_of self.now attribute) }
-    {
-        match self.attribute(attribute) {
-            Some(value) => value.as_number(),
-            None => None,
-        }
-    }
-
-    fn word(&self, attribute: Attribute) -> Option<Word>
-        ensures { result ≡ held as_word (value_of self.now attribute) }
-    {
-        match self.attribute(attribute) {
-            Some(value) => value.as_word(),
-            None => None,
-        }
+        T::from_value(self.value(attribute)?)
     }
 
     /// The element's own matrix, or the identity where none is set.
     pub fn matrix(&self) -> Matrix
         ensures { result ≡ matrix_of self.now }
     {
-        match self.attribute(Attribute::Matrix) {
-            Some(value) => value.as_matrix().unwrap_or(Matrix::default()),
-            None => Matrix::default(),
-        }
+        self.attribute(Attribute::Matrix).unwrap_or_default()
     }
 
     /// The element's own opacity, or 1 where none is set.
     pub fn opacity(&self) -> f32
         ensures { result ≡ opacity_of self.now }
     {
-        self.number(Attribute::Opacity).unwrap_or(1.0)
+        self.attribute(Attribute::Opacity).unwrap_or(1.0)
     }
 
     /// The element's id, or 0 where none is set.
     pub fn id(&self) -> Id
         ensures { result ≡ id_of self.now }
     {
-        saturating_f32_to_u16(self.number(Attribute::Id).unwrap_or(0.0))
+        saturating_f32_to_u16(self.attribute(Attribute::Id).unwrap_or(0.0))
     }
 
     /// The view box's rectangle: one with a side that is not above 0 counts as absent.
     pub fn view_box(&self) -> Option<Rect>
         ensures { result ≡ view_box_of self.now }
     {
-        let rect = self.attribute(Attribute::ViewBox)?.as_rect()?;
-        if rect.is_valid() { Some(rect) } else { None }
+        self.attribute(Attribute::ViewBox)
+            .filter(|rect: &Rect| rect.is_valid())
     }
 
     /// How the view box is fitted, or what holds where none is set.
     pub fn aspect(&self) -> Aspect
         ensures { result ≡ aspect_of self.now }
     {
-        match self.attribute(Attribute::Aspect) {
-            Some(value) => value.as_aspect().unwrap_or(Aspect::default()),
-            None => Aspect::default(),
-        }
+        self.attribute(Attribute::Aspect).unwrap_or_default()
     }
 
     /// Whether its shown is "no".
     pub fn is_hidden(&self) -> bool
         ensures { result ≡ hidden self.now }
     {
-        match self.word(Attribute::Shown) {
-            Some(Word::No) => true,
-            _ => false,
-        }
+        self.attribute(Attribute::Shown) == Some(Word::No)
     }
 
     /// Whether its overflow is "visible" or "auto".
     pub fn overflows(&self) -> bool
         ensures { result ≡ overflows self.now }
     {
-        match self.word(Attribute::Overflow) {
-            Some(Word::Visible | Word::Auto) => true,
-            _ => false,
-        }
+        matches!(
+            self.attribute(Attribute::Overflow),
+            Some(Word::Visible | Word::Auto)
+        )
     }
 }

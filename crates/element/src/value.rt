@@ -1,13 +1,12 @@
 ghost use Rattle.std.specs.Prelude.{◌≡◌, ◌<◌};
 ghost use Rattle.element.specs.Attributes.{place_of};
 ghost use Rattle.element.specs.Roles.{role_of};
-ghost use Rattle.element.specs.Forms.{as_length, as_rect, as_matrix, as_aspect, as_number, as_word};
 
 use crate::word::Word;
-use geom::{Align, Aspect, Length, Matrix, Rect, Unit};
+use geom::{Align, Unit};
 
 /// The kind of an element: a container, a leaf, or other.
-#[derive(Clone, Copy, PartialEq, Eq)]
+#[derive(Clone, Copy, PartialEq, Eq, Debug)]
 pub enum Kind {
     Svg,
     G,
@@ -24,7 +23,7 @@ pub enum Kind {
 }
 
 /// What an element is to the rules of groups: the seven leaves are one.
-#[derive(Clone, Copy, PartialEq, Eq)]
+#[derive(Clone, Copy, PartialEq, Eq, Debug)]
 pub enum Role {
     Svg,
     G,
@@ -44,20 +43,20 @@ impl Kind {
             Kind::G => Role::G,
             Kind::Use => Role::Use,
             Kind::Symbol => Role::Symbol,
-            Kind::Rect => Role::Leaf,
-            Kind::Circle => Role::Leaf,
-            Kind::Ellipse => Role::Leaf,
-            Kind::Line => Role::Leaf,
-            Kind::Polyline => Role::Leaf,
-            Kind::Polygon => Role::Leaf,
-            Kind::Path => Role::Leaf,
+            Kind::Rect
+            | Kind::Circle
+            | Kind::Ellipse
+            | Kind::Line
+            | Kind::Polyline
+            | Kind::Polygon
+            | Kind::Path => Role::Leaf,
             Kind::Other => Role::Other,
         }
     }
 }
 
 /// The names of attributes.
-#[derive(Clone, Copy, PartialEq, Eq)]
+#[derive(Clone, Copy, PartialEq, Eq, Debug)]
 pub enum Attribute {
     Id,
     Shown,
@@ -81,24 +80,12 @@ impl Attribute {
         ensures value { result ≡ place_of self }
         ensures within { result < 11 }
     {
-        match self {
-            Attribute::Id => 0,
-            Attribute::Shown => 1,
-            Attribute::Opacity => 2,
-            Attribute::Matrix => 3,
-            Attribute::X => 4,
-            Attribute::Y => 5,
-            Attribute::Width => 6,
-            Attribute::Height => 7,
-            Attribute::ViewBox => 8,
-            Attribute::Aspect => 9,
-            Attribute::Overflow => 10,
-        }
+        self as usize
     }
 }
 
 /// The value of an attribute, in one of six forms.
-#[derive(Clone, Copy)]
+#[derive(Clone, Copy, PartialEq, Debug)]
 pub enum Value {
     Length {
         number: f32,
@@ -124,66 +111,4 @@ pub enum Value {
     },
     Number(f32),
     Word(Word),
-}
-
-impl Value {
-    /// The length that it holds, if it is one.
-    pub fn as_length(self) -> Option<Length>
-        ensures { result ≡ as_length self }
-    {
-        match self {
-            Value::Length { number, unit } => Some(Length { number, unit }),
-            _ => None,
-        }
-    }
-
-    /// The box that it holds, if it is one.
-    pub fn as_rect(self) -> Option<Rect>
-        ensures { result ≡ as_rect self }
-    {
-        match self {
-            Value::Box { x, y, w, h } => Some(Rect { x, y, w, h }),
-            _ => None,
-        }
-    }
-
-    /// The matrix that it holds, if it is one.
-    pub fn as_matrix(self) -> Option<Matrix>
-        ensures { result ≡ as_matrix self }
-    {
-        match self {
-            Value::Matrix { a, b, c, d, e, f } => Some(Matrix { a, b, c, d, e, f }),
-            _ => None,
-        }
-    }
-
-    /// The aspect that it holds, if it is one.
-    pub fn as_aspect(self) -> Option<Aspect>
-        ensures { result ≡ as_aspect self }
-    {
-        match self {
-            Value::Aspect { align, slice } => Some(Aspect { align, slice }),
-            _ => None,
-        }
-    }
-
-    /// The number that it holds, if it is one.
-    pub fn as_number(self) -> Option<f32>
-        ensures { result ≡ as_number self }
-    {
-        match self {
-            Value::Number(x) => Some(x),
-            _ => None,
-        }
-    }
-
-    /// The word that it holds, if it is one.
-    pub fn as_word(self) -> Option<Word>
-        ensures { result ≡ as_word self }
-    {
-        match self {
-            Value::Word(word) => Some(word),
-            _ => None,
-        }
-    }
 }

@@ -6,14 +6,14 @@ use Rattle.std.proofs.lemmas.List.{append-nil}
 use Rattle.picture.specs.Script.{open_after}
 use Rattle.picture.proofs.Scripts.{balanced_from_count, count_from_balanced}
 use Rattle.record.specs.declared.Group.{Group}
-use Rattle.record.specs.declared.Record.{Record}
-use Rattle.record.specs.declared.Record.TheVariants as variants
+use Rattle.record.specs.Records.{Record}
+use Rattle.record.specs.declared.Event.TheVariants as variants
 use Rattle.record.specs.Good.{good_record}
 use Rattle.record.specs.Zero.{zeroed_group, zeroed_mark}
 use Rattle.sink.specs.Script.{opens, closes, places, level}
 use Rattle.sink.specs.Base.{base_opened, base_closed}
 use Rattle.sink.specs.Meaning.{Meaning, Limit, most_open, exceeds, rewritten, entered}
-use Rattle.sink.specs.Calls.{open_all, with_script, begin_step, end_step}
+use Rattle.sink.specs.Calls.{open_all, with_script, begin_step, close_step, end_step}
 use Rattle.sink.proofs.Outcomes.{check_passed}
 use Rattle.sink.proofs.Counting.{opens_append, closes_append, places_append}
 use Rattle.sink.proofs.Bounds.{Fine, fewer, shallow_at, fine_close, fine_closes}
@@ -75,6 +75,12 @@ end_on : (i : ℕ) (m : Meaning) → (end_step m).result ≡ Ok tt → (fed_from
 unfolding fed_from
 end_on i m now = ap (λ a. (go_on stages.End a (end_step m).next (λ n. record { result = Ok tt; next = n })).result) now
 
+end_alone : (m : Meaning) (u : Unit {0}) → (end_step m).result ≡ Ok u → not (eqb (level m.script) (length m.base.groups)) ≡ false
+end_alone m u e = (check_passed m m false _ _ _ _ u (check_passed m m false _ _ _ _ u e).1).0
+
+close_beyond : (m : Meaning) (u : Unit {0}) → (close_step m).result ≡ Ok u → leb (level m.script) (length m.base.groups) ≡ false
+close_beyond m u e = (check_passed m m true _ _ _ _ u (check_passed m m true _ _ _ _ u e).1).0
+
 -- ---- what an accepted list is
 
 -- d groups are open beyond the base
@@ -92,8 +98,7 @@ told_more m d e r rs good step told =
 fed_from_tells : (i : ℕ) (rs : List Record) (m : Meaning) (d : ℕ) (u : Unit {0}) → OpenAt m d → Fine m.limit m.script → (fed_from i rs m).result ≡ Ok u → Told m d rs
 fed_from_tells i [] m d u at fine e =
     let p = end_back i m u e in
-    let on = check_passed m m false _ _ _ tt p in
-    let alone : not (eqb (level m.script) (length m.base.groups)) ≡ false = (check_passed m m false _ _ _ tt on.1).0 in
+    let alone : not (eqb (level m.script) (length m.base.groups)) ≡ false = end_alone m tt p in
     let none : d ≡ 0 = grind (arith, nat_tests, alone, at) in
     (tt, ap (λ k. Some k) none, fine_closes m.limit (length m.base.groups) m.script fine)
 fed_from_tells i (variants.Open g ∷ rs) m d u at fine e =
@@ -110,8 +115,7 @@ fed_from_tells i (variants.Mark k ∷ rs) m d u at fine e =
     told_more m d d (variants.Mark k) rs now.0 refl (fed_from_tells (suc i) rs _ d u (omega (arith, o, c, at)) now.1 p.1)
 fed_from_tells i (variants.Close ∷ rs) m zero u at fine e =
     let p = step_back i variants.Close rs m u e in
-    let on = check_passed m m true _ _ _ tt p.0 in
-    let beyond : leb (level m.script) (length m.base.groups) ≡ false = (check_passed m m true _ _ _ tt on.1).0 in
+    let beyond : leb (level m.script) (length m.base.groups) ≡ false = close_beyond m tt p.0 in
     absurd (grind (arith, nat_tests, beyond, at))
 fed_from_tells i (variants.Close ∷ rs) m (suc d) u at fine e =
     let p = step_back i variants.Close rs m u e in

@@ -1,6 +1,6 @@
 -- The clauses of `feed`, from the answer and the meaning that it leaves. Assumes nothing.
 use Rattle.std.proofs.Common.{◌≡◌, ℕ, true, false, ◌↔◌, List, is_err, Ok, Err, Result, sym, refl, ◌∙◌, subst, arith}
-use Rattle.record.specs.declared.Record.{Record}
+use Rattle.record.specs.Records.{Record}
 use Rattle.sink.specs.Meaning.{Meaning}
 use Rattle.sink.specs.Calls.{cleared, with_script}
 use Rattle.feed.specs.declared.FeedFault.{FeedFault}

@@ -1,7 +1,6 @@
 -- Records that are fed one by one. Assumes nothing.
-use Rattle.std.proofs.Common.{◌≡◌, ℕ, ◌+◌, ◌<◌, ◌≤◌, List, length, get_or, drop, Ok, Err, Result, refl, add-one, arith, drop_of_length-le, drop-cons}
-use Rattle.std.specs.Result.{result_map_both}
-use Rattle.record.specs.declared.Record.{Record}
+use Rattle.std.proofs.Common.{◌≡◌, ℕ, ◌+◌, ◌<◌, ◌≤◌, List, true, false, length, get_or, drop, is_ok, Ok, Err, Result, refl, add-one, arith, drop_of_length-le, drop-cons}
+use Rattle.record.specs.Records.{Record}
 use Rattle.sink.specs.declared.fault.SinkFault.{SinkFault}
 use Rattle.sink.specs.Meaning.{Meaning}
 use Rattle.sink.specs.Calls.{cleared, begin_step, end_step}
@@ -14,22 +13,16 @@ use Rattle.feed.specs.Feeding.{Feeding, at_stage, record_step, go_on, fed_from, 
 abbrev Answer : Type 0
 Answer = Result (Unit {0}) SinkFault
 
-abbrev Staged : Type 0
-Staged = Result (Unit {0}) (Stage × SinkFault)
-
-abbrev staged : Stage → Answer → Staged
-staged stage a = result_map_both (λ u. u) (λ fault. (stage, fault)) a
-
 -- ---- one call
 
-pub went_on : (stage : Stage) (a : Answer) (m : Meaning) (rest : Meaning → Feeding) (s : Staged) (u : Unit {0}) → s ≡ staged stage a → s ≡ Ok u → go_on stage a m rest ≡ rest m
-went_on stage (Ok v) m rest s u is was = refl
-went_on stage (Err f) m rest s u is was = let z : ◌≡◌ {A = ℕ} 0 1 = cc in absurd (omega arith)
+pub went_on : (stage : Stage) (a : Answer) (m : Meaning) (rest : Meaning → Feeding) → true ≡ is_ok a → go_on stage a m rest ≡ rest m
+went_on stage (Ok u) m rest is = refl
+went_on stage (Err f) m rest is = let z : ◌≡◌ {A = ℕ} 0 1 = cc in absurd (omega arith)
 
-pub stopped : (stage : Stage) (a : Answer) (m : Meaning) (rest : Meaning → Feeding) (s : Staged) (e : Stage × SinkFault) → s ≡ staged stage a → s ≡ Err e
+pub stopped : (stage : Stage) (a : Answer) (m : Meaning) (rest : Meaning → Feeding) (e : Stage × SinkFault) → false ≡ is_ok a → ((f : SinkFault) → a ≡ Err f → e ≡ (stage, f))
     → go_on stage a m rest ≡ record { result = Err (at_stage e.0 e.1); next = cleared m }
-stopped stage (Ok v) m rest s e is was = let z : ◌≡◌ {A = ℕ} 0 1 = cc in absurd (omega arith)
-stopped stage (Err f) m rest s e is was = let same : e ≡ (stage, f) = cc in rw same refl
+stopped stage (Ok u) m rest e is told = let z : ◌≡◌ {A = ℕ} 0 1 = cc in absurd (omega arith)
+stopped stage (Err f) m rest e is told = let same : e ≡ (stage, f) = told f refl in rw same refl
 
 -- ---- the stages
 

@@ -1,7 +1,7 @@
 -- A refused feeding leaves the sink cleared. Assumes nothing.
 use Rattle.std.proofs.Common.{◌≡◌, ℕ, suc, Bool, List, [], ◌∷◌, Ok, Err, Result, refl, ◌∙◌, arith}
-use Rattle.record.specs.declared.Record.{Record}
-use Rattle.record.specs.declared.Record.TheVariants as variants
+use Rattle.record.specs.Records.{Record}
+use Rattle.record.specs.declared.Event.TheVariants as variants
 use Rattle.sink.specs.declared.fault.SinkFault.{SinkFault}
 use Rattle.sink.specs.Meaning.{Meaning}
 use Rattle.sink.specs.Calls.{Tried, settle, cleared, begin_step, end_step}

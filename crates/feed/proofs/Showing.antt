@@ -6,8 +6,8 @@ use Rattle.picture.specs.Picture.{picture}
 use Rattle.picture.specs.Outline.{outline}
 use Rattle.picture.specs.Feeding.{fed}
 use Rattle.picture.proofs.Feeding.{events_of_fed, feeding_keeps_balance, feeding_keeps_the_picture, feeding_keeps_the_outline}
-use Rattle.record.specs.declared.Record.{Record}
-use Rattle.record.specs.declared.Record.TheVariants as variants
+use Rattle.record.specs.Records.{Record}
+use Rattle.record.specs.declared.Event.TheVariants as variants
 use Rattle.record.specs.Zero.{zeroed_group, zeroed_mark}
 use Rattle.sink.specs.Meaning.{Meaning, rewritten, entered}
 use Rattle.sink.specs.Base.{own_groups, base_opened}

@@ -1,11 +1,11 @@
 -- The script that an accepted feeding leaves. Assumes nothing.
 use Rattle.std.proofs.Common.{◌≡◌, ℕ, suc, true, false, List, [], ◌∷◌, ◌++◌, map, Ok, Err, Result, sym, refl, ap, ◌∙◌, append_assoc, arith}
-use Rattle.record.specs.declared.Record.{Record}
-use Rattle.record.specs.declared.Record.TheVariants as variants
+use Rattle.record.specs.Records.{Record}
+use Rattle.record.specs.declared.Event.TheVariants as variants
 use Rattle.sink.specs.declared.fault.SinkFault.{SinkFault}
 use Rattle.sink.specs.Meaning.{Meaning, entered}
 use Rattle.sink.specs.Base.{base_closed}
-use Rattle.sink.specs.Calls.{open_checks, mark_checks, close_checks, end_checks, with_script, begin_step, end_step}
+use Rattle.sink.specs.Calls.{with_script, begin_step, end_step}
 use Rattle.sink.proofs.Outcomes.{checked_ok}
 use Rattle.sink.proofs.Begins.{begin_ok}
 use Rattle.feed.specs.declared.FeedFault.{FeedFault}
@@ -20,12 +20,12 @@ never u f e = let z : ◌≡◌ {A = ℕ} 0 1 = cc in absurd (omega arith)
 -- ---- one record, and the end
 
 pub record_ok : (m : Meaning) (r : Record) (u : Unit {0}) → (record_step m r).result ≡ Ok u → (record_step m r).next ≡ with_script m (m.script ++ entered m.rewriting r ∷ []) true
-record_ok m (variants.Open g) u e = ap (λ o. o.next) (checked_ok m m true (open_checks m g) _ u e)
-record_ok m (variants.Mark k) u e = ap (λ o. o.next) (checked_ok m m true (mark_checks m k) _ u e)
-record_ok m variants.Close u e = ap (λ o. o.next) (checked_ok m m true (close_checks m) _ u e)
+record_ok m (variants.Open g) u e = ap (λ o. o.next) (checked_ok m m true _ _ u e)
+record_ok m (variants.Mark k) u e = ap (λ o. o.next) (checked_ok m m true _ _ u e)
+record_ok m variants.Close u e = ap (λ o. o.next) (checked_ok m m true _ _ u e)
 
 end_ok : (m : Meaning) (u : Unit {0}) → (end_step m).result ≡ Ok u → (end_step m).next ≡ with_script m (m.script ++ base_closed m.base) false
-end_ok m u e = ap (λ o. o.next) (checked_ok m m false (end_checks m) _ u e)
+end_ok m u e = ap (λ o. o.next) (checked_ok m m false _ _ u e)
 
 -- ---- all of it
 

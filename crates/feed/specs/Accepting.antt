@@ -5,8 +5,8 @@ use Rattle.picture.specs.Script.{Event, Script, Balanced}
 use Rattle.picture.specs.Script.Event.{opened, marked, closed}
 use Rattle.record.specs.declared.Group.{Group}
 use Rattle.record.specs.declared.Mark.{Mark}
-use Rattle.record.specs.declared.Record.{Record}
-use Rattle.record.specs.declared.Record.TheVariants as variants
+use Rattle.record.specs.Records.{Record}
+use Rattle.record.specs.declared.Event.TheVariants as variants
 use Rattle.record.specs.Good.{good_record}
 use Rattle.sink.specs.Script.{places}
 use Rattle.sink.specs.Meaning.{Meaning, exceeds}

@@ -1,7 +1,7 @@
 -- What feeding a list of records to a sink answers, and what it makes of the sink's meaning.
 use Rattle.std.specs.Prelude.{ℕ, suc, List, [], ◌∷◌, Ok, Err, Result}
-use Rattle.record.specs.declared.Record.{Record}
-use Rattle.record.specs.declared.Record.TheVariants as variants
+use Rattle.record.specs.Records.{Record}
+use Rattle.record.specs.declared.Event.TheVariants as variants
 use Rattle.sink.specs.declared.fault.SinkFault.{SinkFault}
 use Rattle.sink.specs.Meaning.{Meaning}
 use Rattle.sink.specs.Calls.{Outcome, cleared, begin_step, open_step, mark_step, close_step, end_step}

@@ -4,7 +4,7 @@ use Rattle.picture.specs.Script.{Balanced}
 use Rattle.picture.specs.Picture.{picture}
 use Rattle.picture.specs.Outline.{outline}
 use Rattle.picture.specs.Feeding.{seen_behind, outline_behind}
-use Rattle.record.specs.declared.Record.{Record}
+use Rattle.record.specs.Records.{Record}
 use Rattle.record.specs.Zero.{zeroed_mark}
 use Rattle.sink.specs.Meaning.{Meaning, rewritten}
 use Rattle.sink.specs.Base.{own_groups}

@@ -1,6 +1,6 @@
 -- The script of an accepted feeding.
 use Rattle.std.specs.Prelude.{List, ◌++◌, map}
-use Rattle.record.specs.declared.Record.{Record}
+use Rattle.record.specs.Records.{Record}
 use Rattle.sink.specs.Meaning.{Meaning, entered}
 use Rattle.sink.specs.Base.{base_opened, base_closed}
 

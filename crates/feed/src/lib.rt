@@ -3,7 +3,6 @@
 #![tactic(auto)]
 
 ghost use Rattle.std.specs.Prelude.{◌≡◌, false, ◌↔◌, Ok, Err};
-ghost use Rattle.std.specs.Result.{result_map_both};
 ghost use Rattle.sink.specs.Calls.{cleared, with_script};
 ghost use Rattle.feed.specs.Accepting.{Accepts};
 ghost use Rattle.feed.specs.Feeding.{at_stage, record_step, fed, as_left};
@@ -40,15 +39,6 @@ impl From<(Stage, SinkFault)> for FeedFault {
     }
 }
 
-fn at(stage: Stage, answer: Result<(), SinkFault>) -> Result<(), (Stage, SinkFault)>
-    ensures { result ≡ result_map_both (λ u. u) (λ fault. (stage, fault)) answer }
-{
-    match answer {
-        Ok(()) => Ok(()),
-        Err(fault) => Err((stage, fault)),
-    }
-}
-
 fn put<S: Sink>(record: &Record, sink: &mut S) -> Result<(), SinkFault>
     ensures answer { result ≡ (record_step (S.meaning sink.old) «record».now).result }
     ensures after { S.meaning sink.new ≡ (record_step (S.meaning sink.old) «record».now).next }
@@ -64,11 +54,11 @@ fn draw<S: Sink>(records: &[Record], sink: &mut S) -> Result<(), FeedFault>
     ensures answer { result ≡ (fed (S.meaning sink.old) records.now).result }
     ensures after { as_left result (S.meaning sink.new) ≡ (fed (S.meaning sink.old) records.now).next }
 {
-    at(Stage::Begin, sink.begin())?;
+    sink.begin().map_err(|fault| (Stage::Begin, fault))?;
     for (i, record) in records.iter().enumerate() {
-        at(Stage::Record(i), put(record, sink))?;
+        put(record, sink).map_err(|fault| (Stage::Record(i), fault))?;
     }
-    at(Stage::End, sink.end())?;
+    sink.end().map_err(|fault| (Stage::End, fault))?;
     Ok(())
 }
 
@@ -86,8 +76,7 @@ pub fn feed<S: Sink>(records: &[Record], sink: &mut S) -> Result<(), FeedFault>
     ensures groups { result ≡ Ok tt → GroupsBehind (S.meaning sink.old) records.now (S.meaning sink.new).script }
 {
     let drawn = draw(records, sink);
-    let refused = drawn.is_err();
-    if refused {
+    if drawn.is_err() {
         sink.clear();
     }
     drawn

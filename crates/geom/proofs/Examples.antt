@@ -8,7 +8,7 @@ use Rattle.geom.specs.Length.{in_unit}
 use Rattle.geom.specs.Size.{finite_size, valid_size}
 use Rattle.geom.specs.Fit.{fit, scales, across, down, aligned}
 use Rattle.geom.specs.Opacity.{plain}
-use Rattle.geom.specs.Root.{side_or_full, percent_side, root_side, root_sides, root_flag, size_refusal, root_size}
+use Rattle.geom.specs.Root.{side_or_full, percent_side, root_side, sides_of, root_flag, size_refusal, root_size}
 use Rattle.geom.specs.Worked.{WorkedLengths, WorkedRootSizes, WorkedFits, WorkedOpacities, WorkedExamples}
 
 lengths : WorkedLengths
@@ -16,7 +16,7 @@ unfolding in_unit decimal round odd units size span climb count_trailing_zeros m
 lengths = (λ base F. refl, λ base dpi. refl)
 
 root_sizes : WorkedRootSizes
-unfolding root_size root_sides root_side percent_side side_or_full root_flag size_refusal finite_size valid_size float_is_finite in_unit decimal round odd units size span climb count_trailing_zeros mul div lt
+unfolding root_size sides_of root_side percent_side side_or_full root_flag size_refusal finite_size valid_size float_is_finite in_unit decimal round odd units size span climb count_trailing_zeros mul div lt
 root_sizes = (refl, refl, refl, refl)
 
 fits : WorkedFits

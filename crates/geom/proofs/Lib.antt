@@ -1,5 +1,4 @@
 pub mod Constants
 pub mod Units
 pub mod Products
-mod RootSides
 pub mod Examples

@@ -1,12 +1,14 @@
 -- The product of two f32 in binary64 is exact, and two such products compare as the whole numbers of units do. Assumes nothing.
-use Rattle.std.proofs.Common.{◌≡◌, ℕ, zero, suc, ◌+◌, ◌*◌, ◌^◌, ◌<◌, Bool, true, false, not, ◌&&◌, ◌||◌, T, eqb, ℤ, ◌*ℤ◌, sym, refl, ap, ◌∙◌, subst, ap₂, lt_of_lt_of_le, mul_assoc, mul_comm, mul-le-mul, mul-lt-mul_of_pos_right, mul-pos, mul-zero, zero-mul, mul_right_comm, mul_left_comm, arith, lit<, lit≤, pow-add}
+use Rattle.std.proofs.Common.{◌≡◌, ℕ, zero, suc, ◌+◌, ◌*◌, ◌^◌, ◌<◌, Bool, true, false, not, ◌&&◌, ◌||◌, T, [], ◌∷◌, eqb, ℤ, ◌*ℤ◌, sym, refl, ap, ◌∙◌, subst, ap₂, lt_of_lt_of_le, mul_assoc, mul_comm, mul-le-mul, mul-lt-mul_of_pos_right, mul-pos, mul-zero, zero-mul, mul_right_comm, mul_left_comm, arith, lit<, lit≤, pow-add}
 use mathlib.Core.Bool.{beq}
 use native.Mathlib.Nat.{mul-mul-mul_comm, eq_of_mul-eq-mul_right}
 use lib.Ieee.{Float, nan, inf, fin, binary32, binary64, fits, up, down, unlike, level, round, mul, eq, ne}
 use lib.Ieee.Fits.{and_l, and_r, down_pos}
 use lib.Ieee.Exact.{HasValue, round_exact}
 use Rattle.std.proofs.lemmas.Bool.Decides.{nat_tests}
+use Rattle.std.proofs.Math.Bool.{and_assoc, and-true}
 use Rattle.std.specs.Float.{float_is_finite}
+use Rattle.std.specs.List.{list_all}
 use Rattle.geom.specs.Invertible.{signed, same, units, invertible}
 use Rattle.geom.proofs.Units.{Counted, counted, units_are}
 
@@ -146,6 +148,9 @@ products_compare x y z w p q r u f g h k =
     ∙ sym (ap₂ same a.whole b.whole)
 
 -- ---- what the test in binary64 says of a matrix
+
+pub all_four : (a b c d : Float) → (float_is_finite a && float_is_finite b && float_is_finite c && float_is_finite d) ≡ list_all float_is_finite (a ∷ b ∷ c ∷ d ∷ [])
+all_four a b c d = simp (and_assoc, and-true)
 
 pub not_finite : (a b c d : Float) → (float_is_finite a && float_is_finite b && float_is_finite c && float_is_finite d) ≡ false → invertible a b c d ≡ false
 unfolding invertible

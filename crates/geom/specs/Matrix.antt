@@ -1,9 +1,13 @@
 -- Matrices (a, b, c, d, e, f), which map x to ax + cy + e and y to bx + dy + f.
-use Rattle.std.specs.Prelude.{Bool, ◌&&◌, Float}
+use Rattle.std.specs.Prelude.{Bool, ◌&&◌, List, [], ◌∷◌, Float}
 use Rattle.std.specs.Float.Ieee.{eq}
 use Rattle.std.specs.Float.{float_is_finite}
 use Rattle.geom.specs.F32.{◌+f◌, ◌*f◌, whole}
 use Rattle.geom.specs.declared.matrix.Matrix.{Matrix}
+
+-- its numbers in their order
+abbrev pub entries : Matrix → List Float
+entries m = m.a ∷ m.b ∷ m.c ∷ m.d ∷ m.e ∷ m.f ∷ []
 
 unfoldable pub translation : Float → Float → Matrix
 translation x y = record { a = whole 1; b = whole 0; c = whole 0; d = whole 1; e = x; f = y }

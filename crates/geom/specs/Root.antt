@@ -13,6 +13,8 @@ use Rattle.geom.specs.declared.length.Unit.{Unit as LengthUnit}
 use Rattle.geom.specs.declared.length.Unit.TheVariants.{None, Px, Em, Ex, In, Cm, Mm, Pt, Pc, Percent}
 use Rattle.geom.specs.declared.rect.Rect.{Rect}
 use Rattle.geom.specs.declared.rect.Size.{Size}
+use Rattle.geom.specs.declared.options.Options.{Options}
+use Rattle.geom.specs.declared.root.RootAttributes.{RootAttributes}
 use Rattle.geom.specs.declared.root.RootSize.{RootSize}
 
 abbrev pub is_percent : LengthUnit → Bool
@@ -37,33 +39,37 @@ percent_side n option.None = n
 percent_side n (option.Some side) = side *f (n /f whole 100)
 
 -- one side; no unit but the percent has a base
-unfoldable pub root_side : Length → Option Float → Float → Float → Float
-root_side l side dpi F = cond (is_percent l.unit) (percent_side l.number side) (in_unit l.unit l.number (whole 0) dpi F)
+unfoldable pub root_side : Length → Option Float → Options → Float
+root_side l side options =
+    cond (is_percent l.unit) (percent_side l.number side) (in_unit l.unit l.number (whole 0) options.dpi options.font_size)
 
 -- both sides: with a view box and one side only, the other follows from the view box's proportions
-unfoldable pub root_sides : Option Length → Option Length → Option Rect → Float → Float → Size
-root_sides width height option.None dpi F =
-    record { w = root_side (side_or_full width) option.None dpi F; h = root_side (side_or_full height) option.None dpi F }
-root_sides (option.Some width) option.None (option.Some v) dpi F =
-    let w = root_side width (option.Some v.w) dpi F in
+unfoldable pub sides_of : Option Length → Option Length → Option Rect → Options → Size
+sides_of width height option.None options =
+    record { w = root_side (side_or_full width) option.None options; h = root_side (side_or_full height) option.None options }
+sides_of (option.Some width) option.None (option.Some v) options =
+    let w = root_side width (option.Some v.w) options in
     record { w = w; h = v.h *f w /f v.w }
-root_sides option.None (option.Some height) (option.Some v) dpi F =
-    let h = root_side height (option.Some v.h) dpi F in
+sides_of option.None (option.Some height) (option.Some v) options =
+    let h = root_side height (option.Some v.h) options in
     record { w = v.w *f h /f v.h; h = h }
-root_sides (option.Some width) (option.Some height) (option.Some v) dpi F =
-    record { w = root_side width (option.Some v.w) dpi F; h = root_side height (option.Some v.h) dpi F }
-root_sides option.None option.None (option.Some v) dpi F =
-    record { w = root_side (side_or_full option.None) (option.Some v.w) dpi F; h = root_side (side_or_full option.None) (option.Some v.h) dpi F }
+sides_of (option.Some width) (option.Some height) (option.Some v) options =
+    record { w = root_side width (option.Some v.w) options; h = root_side height (option.Some v.h) options }
+sides_of option.None option.None (option.Some v) options =
+    record { w = root_side (side_or_full option.None) (option.Some v.w) options; h = root_side (side_or_full option.None) (option.Some v.h) options }
+
+abbrev pub root_sides : RootAttributes → Options → Size
+root_sides root options = sides_of root.width root.height root.view_box options
 
 -- some side is a percent with no view box to be of
-unfoldable pub root_flag : Option Length → Option Length → Option Rect → Bool
-root_flag width height v = not (is_some v) && (is_percent (side_or_full width).unit || is_percent (side_or_full height).unit)
+unfoldable pub root_flag : RootAttributes → Bool
+root_flag root = not (is_some root.view_box) && (is_percent (side_or_full root.width).unit || is_percent (side_or_full root.height).unit)
 
 -- a size that is not finite is refused before one that is not valid
 unfoldable pub size_refusal : Size → Option Refusal
 size_refusal s = first_of ((not (finite_size s), NotFinite) ∷ (not (valid_size s), InvalidSize) ∷ [])
 
-unfoldable pub root_size : Option Length → Option Length → Option Rect → Float → Float → Result RootSize Refusal
-root_size width height v dpi F =
-    let size = root_sides width height v dpi F in
-    unless (size_refusal size) (record { size = size; flag = root_flag width height v })
+unfoldable pub root_size : RootAttributes → Options → Result RootSize Refusal
+root_size root options =
+    let size = root_sides root options in
+    unless (size_refusal size) (record { size = size; flag = root_flag root })

@@ -1,11 +1,22 @@
 -- Sizes, rectangles and rulers: which are valid, which are finite.
-use Rattle.std.specs.Prelude.{Bool, ◌&&◌}
+use Rattle.std.specs.Prelude.{Bool, ◌&&◌, List, [], ◌∷◌, Float}
 use Rattle.std.specs.Float.Ieee.{lt}
 use Rattle.std.specs.Float.{float_is_finite}
 use Rattle.geom.specs.F32.{whole}
 use Rattle.geom.specs.declared.rect.Size.{Size}
 use Rattle.geom.specs.declared.rect.Rect.{Rect}
 use Rattle.geom.specs.declared.rect.Ruler.{Ruler}
+
+-- a rectangle's width and height
+abbrev pub size_of : Rect → Size
+size_of r = record { w = r.w; h = r.h }
+
+-- their numbers in their order
+abbrev pub rect_floats : Rect → List Float
+rect_floats r = r.x ∷ r.y ∷ r.w ∷ r.h ∷ []
+
+abbrev pub ruler_floats : Ruler → List Float
+ruler_floats r = r.w ∷ r.h ∷ r.f ∷ []
 
 -- both sides are above 0
 unfoldable pub valid_size : Size → Bool

@@ -1,5 +1,5 @@
 -- Worked examples, on the definitions that the contracts use.
-use Rattle.std.specs.Prelude.{◌≡◌, ℕ, Bool, true, false, Ok, Err, from_bits, Float}
+use Rattle.std.specs.Prelude.{◌≡◌, ℕ, Bool, true, false, Ok, Err, Option, from_bits, Float}
 use Rattle.std.specs.Float.{binary32}
 use Rattle.std.specs.Float.Ieee.{neg}
 use Rattle.std.specs.declared.option.Option.TheVariants as option
@@ -13,8 +13,10 @@ use Rattle.geom.specs.Opacity.{plain}
 use Rattle.geom.specs.declared.length.Length.{Length}
 use Rattle.geom.specs.declared.length.Unit.TheVariants as unit
 use Rattle.geom.specs.declared.matrix.Matrix.{Matrix}
+use Rattle.geom.specs.declared.options.Options.{Options}
 use Rattle.geom.specs.declared.rect.Rect.{Rect}
 use Rattle.geom.specs.declared.rect.Size.{Size}
+use Rattle.geom.specs.declared.root.RootAttributes.{RootAttributes}
 use Rattle.geom.specs.declared.view_box.Align.TheVariants.{XMidYMid}
 use Rattle.geom.specs.declared.view_box.ViewBox.{ViewBox}
 
@@ -27,6 +29,13 @@ size w h = record { w = whole w; h = whole h }
 -- a length of n user units
 abbrev pub units : ℕ → Length
 units n = record { number = whole n; unit = unit.None }
+
+-- a root of this width and view box, without a height
+abbrev pub root : Option Length → Option Rect → RootAttributes
+root width view_box = record { width = width; height = option.None; view_box = view_box }
+
+abbrev pub usual : Options
+usual = record { dpi = whole 96; font_size = whole 12 }
 
 abbrev pub centred : Rect → Bool → ViewBox
 centred r slice = record { rect = r; aspect = record { align = XMidYMid; slice = slice } }
@@ -44,9 +53,9 @@ WorkedLengths =
 -- a root of width 200 with view box 0 0 100 50 is 200 by 100; a bare root is 100 by 100, with its flag on; one of width 0 is refused 6
 abbrev pub WorkedRootSizes : Type 0
 WorkedRootSizes =
-    (root_size (option.Some (units 200)) option.None (option.Some (box 0 0 100 50)) (whole 96) (whole 12) ≡ Ok (record { size = size 200 100; flag = false }))
-    × (root_size option.None option.None option.None (whole 96) (whole 12) ≡ Ok (record { size = size 100 100; flag = true }))
-    × (root_size (option.Some (units 0)) option.None option.None (whole 96) (whole 12) ≡ Err InvalidSize)
+    (root_size (root (option.Some (units 200)) (option.Some (box 0 0 100 50))) usual ≡ Ok (record { size = size 200 100; flag = false }))
+    × (root_size (root option.None option.None) usual ≡ Ok (record { size = size 100 100; flag = true }))
+    × (root_size (root (option.Some (units 0)) option.None) usual ≡ Err InvalidSize)
     × (number_of InvalidSize ≡ 6)
 
 -- view box 0 0 10 20 into 100 by 100: (5, 0, 0, 5, 25, 0) to meet, (10, 0, 0, 10, 0, -50) to slice

@@ -5,7 +5,7 @@ use crate::matrix::Matrix;
 use crate::rect::{Rect, Size};
 
 /// Where a view box stands in its viewport.
-#[derive(Clone, Copy, PartialEq, Eq)]
+#[derive(Clone, Copy, PartialEq, Eq, Debug)]
 pub enum Align {
     None,
     XMinYMin,
@@ -20,14 +20,14 @@ pub enum Align {
 }
 
 /// How a view box is fitted: where it stands, and whether it covers the viewport (slice) or lies within it (meet).
-#[derive(Clone, Copy, PartialEq, Eq)]
+#[derive(Clone, Copy, PartialEq, Eq, Debug)]
 pub struct Aspect {
     pub align: Align,
     pub slice: bool,
 }
 
 /// A view box's rectangle and how it is fitted.
-#[derive(Clone, Copy)]
+#[derive(Clone, Copy, PartialEq, Debug)]
 pub struct ViewBox {
     pub rect: Rect,
     pub aspect: Aspect,
@@ -42,6 +42,7 @@ enum Position {
 }
 
 impl Align {
+    #[tactic(auto, unfolding(crate::specs::Fit::across))]
     fn across(self) -> Position
         ensures { result ≡ across self }
     {
@@ -52,6 +53,7 @@ impl Align {
         }
     }
 
+    #[tactic(auto, unfolding(crate::specs::Fit::down))]
     fn down(self) -> Position
         ensures { result ≡ down self }
     {
@@ -63,22 +65,26 @@ impl Align {
     }
 }
 
-impl Aspect {
-    /// What holds where none is given: in the middle, meet.
-    pub fn default() -> Aspect
-        ensures { result ≡ default_aspect }
-    {
+/// What holds where none is given: in the middle, meet.
+impl Default for Aspect {
+    ghost is_default = { λ aspect. aspect ≡ default_aspect };
+
+    #[tactic(auto, unfolding(crate::specs::Fit::default_aspect))]
+    fn default() -> Aspect {
         Aspect {
             align: Align::XMidYMid,
             slice: false,
         }
     }
+}
 
+impl Aspect {
     // The one scale of both sides, or with no alignment a scale of each.
+    #[tactic(auto, unfolding(crate::specs::Fit::scales))]
     fn scales(self, sx: f32, sy: f32) -> (f32, f32)
         ensures { result ≡ scales self sx sy }
     {
-        if let Align::None = self.align {
+        if self.align == Align::None {
             return (sx, sy);
         }
         let s = if self.slice {
@@ -103,6 +109,7 @@ fn larger(x: f32, y: f32) -> f32
 }
 
 // The start of a side at `start` that has `spare` left over.
+#[tactic(auto, using(crate::proofs::Constants::two_is), unfolding(crate::specs::Fit::aligned))]
 fn aligned(position: Position, start: f32, spare: f32) -> f32
     ensures { result ≡ aligned position start spare }
 {
@@ -115,6 +122,7 @@ fn aligned(position: Position, start: f32, spare: f32) -> f32
 
 impl ViewBox {
     /// The matrix that fits the view box into a size.
+    #[tactic(auto, using(crate::proofs::Constants::zero_is), unfolding(crate::specs::Fit::fit))]
     pub fn to_transform(self, size: Size) -> Matrix
         ensures { result ≡ fit self size }
     {

@@ -1,21 +1,12 @@
-use element::{ATTRIBUTES, Attribute, Element, Kind, Value, word_of};
+use element::{Attribute, Element, Kind, Value, word_of};
+use geom::Rect;
 
 fn with(attribute: Attribute, value: Value) -> Element {
-    let mut attributes = [None; ATTRIBUTES];
-    attributes[attribute.place()] = Some(value);
-    Element {
-        kind: Kind::Svg,
-        attributes,
-    }
+    Element::new(Kind::Svg).with(attribute, Some(value))
 }
 
 fn corner_box(w: f32, h: f32) -> Value {
-    Value::Box {
-        x: 0.0,
-        y: 0.0,
-        w,
-        h,
-    }
+    Value::from(Rect::from([0.0, 0.0, w, h]))
 }
 
 // A view box's sides, and whether it counts as there.
@@ -68,7 +59,7 @@ fn words(rt: HostRuntime) {
         ("", false, false),
     ];
     for (text, hides, overflows) in table {
-        let word = Value::Word(word_of(text));
+        let word = Value::from(word_of(text));
         assert_eq!(rt; with(Attribute::Shown, word).is_hidden(), hides);
         assert_eq!(rt; with(Attribute::Overflow, word).overflows(), overflows);
         assert_eq!(rt; with(Attribute::Shown, word).overflows(), false);

@@ -1,22 +1,19 @@
-use crate::bits::bits;
+use crate::bits::check_entries;
 use geom::{Align, Aspect, Matrix, Rect, Size, ViewBox};
 use std::process::Abort;
 
 fn fit(rect: [f32; 4], size: [f32; 2], aspect: Aspect) -> Matrix {
-    let [x, y, w, h] = rect;
-    let rect = Rect { x, y, w, h };
     let [w, h] = size;
-    ViewBox { rect, aspect }.to_transform(Size { w, h })
+    ViewBox {
+        rect: Rect::from(rect),
+        aspect,
+    }
+    .to_transform(Size { w, h })
 }
 
 // b and c are 0, and the other entries are the given ones.
 fn check_fit(rt: &impl Abort, fit: Matrix, a: f32, d: f32, e: f32, f: f32) {
-    assert_eq!(rt; bits(fit.a), bits(a));
-    assert_eq!(rt; bits(fit.b), bits(0.0));
-    assert_eq!(rt; bits(fit.c), bits(0.0));
-    assert_eq!(rt; bits(fit.d), bits(d));
-    assert_eq!(rt; bits(fit.e), bits(e));
-    assert_eq!(rt; bits(fit.f), bits(f));
+    check_entries(rt, fit, [a, 0.0, 0.0, d, e, f]);
 }
 
 // View box 8 -16 32 64 into a size: alignment, whether to slice, then a, d, e and f.

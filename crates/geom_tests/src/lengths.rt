@@ -4,11 +4,7 @@ use geom::{Direction, Length, Ruler, Unit, convert_length};
 // 7.3 of each unit in a viewport of 320 by 200 with font size 12.5: across and down at dpi 10, then at dpi 4,000.
 #[test]
 fn each_unit_across_and_down(rt: HostRuntime) {
-    let ruler = Ruler {
-        w: 320.0,
-        h: 200.0,
-        f: 12.5,
-    };
+    let ruler = Ruler::from([320.0, 200.0, 12.5]);
     let table = [
         (Unit::None, 7.3, 7.3, 7.3, 7.3),
         (Unit::Px, 7.3, 7.3, 7.3, 7.3),
@@ -23,14 +19,15 @@ fn each_unit_across_and_down(rt: HostRuntime) {
     ];
     for (unit, coarse_across, coarse_down, fine_across, fine_down) in table {
         let length = Length { number: 7.3, unit };
-        let across = convert_length(length, Direction::Across, 10.0, ruler);
-        assert_eq!(rt; bits(across), bits(coarse_across));
-        let down = convert_length(length, Direction::Down, 10.0, ruler);
-        assert_eq!(rt; bits(down), bits(coarse_down));
-        let across = convert_length(length, Direction::Across, 4000.0, ruler);
-        assert_eq!(rt; bits(across), bits(fine_across));
-        let down = convert_length(length, Direction::Down, 4000.0, ruler);
-        assert_eq!(rt; bits(down), bits(fine_down));
+        for (direction, dpi, expected) in [
+            (Direction::Across, 10.0, coarse_across),
+            (Direction::Down, 10.0, coarse_down),
+            (Direction::Across, 4000.0, fine_across),
+            (Direction::Down, 4000.0, fine_down),
+        ] {
+            let measured = convert_length(length, direction, dpi, ruler);
+            assert_eq!(rt; bits(measured), bits(expected));
+        }
     }
 }
 

@@ -1,21 +1,5 @@
-use crate::bits::bits;
+use crate::bits::check_entries;
 use geom::Matrix;
-use std::process::Abort;
-
-fn matrix(entries: [f32; 6]) -> Matrix {
-    let [a, b, c, d, e, f] = entries;
-    Matrix { a, b, c, d, e, f }
-}
-
-fn check_entries(rt: &impl Abort, m: Matrix, expected: [f32; 6]) {
-    let [a, b, c, d, e, f] = expected;
-    assert_eq!(rt; bits(m.a), bits(a));
-    assert_eq!(rt; bits(m.b), bits(b));
-    assert_eq!(rt; bits(m.c), bits(c));
-    assert_eq!(rt; bits(m.d), bits(d));
-    assert_eq!(rt; bits(m.e), bits(e));
-    assert_eq!(rt; bits(m.f), bits(f));
-}
 
 // A product one way round and the other, a translation and a fit likewise; sums in their order, signs of zero, overflow.
 #[test]
@@ -63,7 +47,8 @@ fn products(rt: HostRuntime) {
         ),
     ];
     for (left, right, expected) in table {
-        check_entries(&rt, matrix(left).pre_concat(matrix(right)), expected);
+        let product = Matrix::from(left).pre_concat(Matrix::from(right));
+        check_entries(&rt, product, expected);
     }
     check_entries(
         &rt,
@@ -98,8 +83,9 @@ fn identities(rt: HostRuntime) {
         ),
     ];
     for (entries, is_identity, is_finite) in table {
-        assert_eq!(rt; matrix(entries).is_identity(), is_identity);
-        assert_eq!(rt; matrix(entries).is_finite(), is_finite);
+        let matrix = Matrix::from(entries);
+        assert_eq!(rt; matrix.is_identity(), is_identity);
+        assert_eq!(rt; matrix.is_finite(), is_finite);
     }
 }
 
@@ -134,9 +120,7 @@ fn invertible_matrices(rt: HostRuntime) {
         (1.0, 0.0, f32::NAN, 1.0, false),
     ];
     for (a, b, c, d, expected) in table {
-        assert_eq!(rt;
-            matrix([a, b, c, d, 0.0, f32::INFINITY]).is_invertible(),
-            expected
-        );
+        let matrix = Matrix::from([a, b, c, d, 0.0, f32::INFINITY]);
+        assert_eq!(rt; matrix.is_invertible(), expected);
     }
 }

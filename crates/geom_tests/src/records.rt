@@ -13,7 +13,7 @@ fn is_good(e: f32, clip: Option<Rect>, opacity: f32) -> bool {
 }
 
 fn clip(x: f32, w: f32, h: f32) -> Option<Rect> {
-    Some(Rect { x, y: 0.0, w, h })
+    Some(Rect::from([x, 0.0, w, h]))
 }
 
 #[test]

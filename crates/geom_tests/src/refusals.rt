@@ -2,10 +2,10 @@ use refusal::{Refusal, first};
 
 #[test]
 fn the_first_check_that_fails(rt: HostRuntime) {
-    assert_eq!(rt; first(&[]), None);
+    assert_eq!(rt; first::<Refusal>(&[]), Ok(()));
     assert_eq!(rt;
         first(&[(false, Refusal::TooDeep), (false, Refusal::BadValue)]),
-        None
+        Ok(())
     );
     assert_eq!(rt;
         first(&[
@@ -13,6 +13,6 @@ fn the_first_check_that_fails(rt: HostRuntime) {
             (true, Refusal::TooDeep),
             (true, Refusal::BadValue),
         ]),
-        Some(Refusal::TooDeep)
+        Err(Refusal::TooDeep)
     );
 }

@@ -1,7 +1,13 @@
 use crate::bits::bits;
-use geom::{Length, Rect, Unit, resolve_svg_size};
+use geom::{Length, Options, Rect, RootAttributes, Unit, resolve_svg_size};
+use refusal::Refusal;
 use std::process::Abort;
 use std::test::Fail;
+
+const OPTIONS: Options = Options {
+    dpi: 96.0,
+    font_size: 12.0,
+};
 
 fn of(number: f32, unit: Unit) -> Option<Length> {
     Some(Length { number, unit })
@@ -16,27 +22,18 @@ fn percent(number: f32) -> Option<Length> {
 }
 
 fn view_box(w: f32, h: f32) -> Option<Rect> {
-    Some(Rect {
-        x: 3.0,
-        y: -4.0,
-        w,
-        h,
-    })
+    Some(Rect::from([3.0, -4.0, w, h]))
 }
 
 // At dpi 96 and font size 12 the root has this size and this flag.
 fn check_root(
     rt: &impl Abort,
-    width: Option<Length>,
-    height: Option<Length>,
-    view_box: Option<Rect>,
+    attributes: RootAttributes,
     w: f32,
     h: f32,
     flag: bool,
 ) -> Result<(), Fail> {
-    let Ok(root) = resolve_svg_size(width, height, view_box, 96.0, 12.0) else {
-        return Err(Fail::new("refused"));
-    };
+    let root = resolve_svg_size(attributes, OPTIONS)?;
     assert_eq!(rt; bits(root.size.w), bits(w));
     assert_eq!(rt; bits(root.size.h), bits(h));
     assert_eq!(rt; root.flag, flag);
@@ -58,7 +55,12 @@ fn root_sizes(rt: HostRuntime) -> Result<(), Fail> {
         (px(1e-45), px(1e38), 1e-45, 1e38, false),
     ];
     for (width, height, w, h, flag) in bare {
-        check_root(&rt, width, height, None, w, h, flag)?;
+        let attributes = RootAttributes {
+            width,
+            height,
+            view_box: None,
+        };
+        check_root(&rt, attributes, w, h, flag)?;
     }
     // With a view box: the width and height given, the view box's sides and the root's; the flag is off.
     let boxed = [
@@ -77,14 +79,19 @@ fn root_sizes(rt: HostRuntime) -> Result<(), Fail> {
         (None, of(1.0, Unit::Cm), 3.0, 7.0, 16.197977, 37.795277),
     ];
     for (width, height, vw, vh, w, h) in boxed {
-        check_root(&rt, width, height, view_box(vw, vh), w, h, false)?;
+        let attributes = RootAttributes {
+            width,
+            height,
+            view_box: view_box(vw, vh),
+        };
+        check_root(&rt, attributes, w, h, false)?;
     }
     Ok(())
 }
 
 // A side that is not above 0 is refused 6; one that is not finite is refused 8, whatever the other side is.
 #[test]
-fn roots_refused(rt: HostRuntime) -> Result<(), Fail> {
+fn roots_refused(rt: HostRuntime) {
     let table = [
         (px(0.0), None, None, 6),
         (px(-0.0), px(5.0), None, 6),
@@ -101,10 +108,12 @@ fn roots_refused(rt: HostRuntime) -> Result<(), Fail> {
         (px(1e6), None, view_box(1.0, 3e38), 8),
     ];
     for (width, height, view_box, number) in table {
-        let Err(refusal) = resolve_svg_size(width, height, view_box, 96.0, 12.0) else {
-            return Err(Fail::new("accepted"));
+        let attributes = RootAttributes {
+            width,
+            height,
+            view_box,
         };
-        assert_eq!(rt; refusal.number(), number);
+        let refusal = resolve_svg_size(attributes, OPTIONS).err();
+        assert_eq!(rt; refusal.map(Refusal::number), Some(number));
     }
-    Ok(())
 }

@@ -1,10 +1,6 @@
 use crate::bits::bits;
 use geom::{Rect, Ruler, Size, is_plain};
 
-fn rect(x: f32, y: f32, w: f32, h: f32) -> Rect {
-    Rect { x, y, w, h }
-}
-
 // Two sides, whether both are above 0 and whether both are finite.
 #[test]
 fn sides(rt: HostRuntime) {
@@ -23,11 +19,11 @@ fn sides(rt: HostRuntime) {
     for (w, h, is_valid, is_finite) in table {
         assert_eq!(rt; Size { w, h }.is_valid(), is_valid);
         assert_eq!(rt; Size { w, h }.is_finite(), is_finite);
-        assert_eq!(rt; rect(-1.0, 0.0, w, h).is_valid(), is_valid);
-        assert_eq!(rt; rect(-1.0, 0.0, w, h).is_finite(), is_finite);
-        assert_eq!(rt; rect(w, h, 1.0, 1.0).is_finite(), is_finite);
-        assert_eq!(rt; Ruler { w, h, f: 12.0 }.is_finite(), is_finite);
-        assert_eq!(rt; Ruler { w: 1.0, h: w, f: h }.is_finite(), is_finite);
+        assert_eq!(rt; Rect::from([-1.0, 0.0, w, h]).is_valid(), is_valid);
+        assert_eq!(rt; Rect::from([-1.0, 0.0, w, h]).is_finite(), is_finite);
+        assert_eq!(rt; Rect::from([w, h, 1.0, 1.0]).is_finite(), is_finite);
+        assert_eq!(rt; Ruler::from([w, h, 12.0]).is_finite(), is_finite);
+        assert_eq!(rt; Ruler::from([1.0, w, h]).is_finite(), is_finite);
     }
 }
 

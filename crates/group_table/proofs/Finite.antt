@@ -1,17 +1,18 @@
 -- What is good is finite part by part, and the bits of what is finite are no NaN's. Assumes nothing.
 use Rattle.std.proofs.Common.{◌≡◌, Bool, true, false, not, T, pos, Some, sym, refl, subst}
-use lib.Count.{count_trailing_zeros}
-use lib.Ieee.{Float, nan, inf, fin, binary32, to_bits, nan_bits, is_nan, fits, lt, le, eq, round, odd, units, size, span, climb}
+use lib.Ieee.{Float, nan, inf, fin, binary32, to_bits, nan_bits, is_nan, fits, lt, le, eq}
 use lib.Ieee.Bits.{of_bits-to_bits, nan_bits_is}
 use Rattle.std.specs.Float.{float_is_finite}
+use Rattle.std.specs.List.{list_all}
 use Rattle.std.proofs.lemmas.Bool.{and_parts}
 use Rattle.geom.specs.F32.{decimal}
-use Rattle.geom.specs.Matrix.{finite_matrix}
-use Rattle.geom.specs.Size.{finite_rect, finite_ruler}
+use Rattle.geom.specs.Matrix.{entries, finite_matrix}
+use Rattle.geom.specs.Size.{rect_floats, ruler_floats, finite_rect, finite_ruler}
 use Rattle.geom.specs.declared.matrix.Matrix.{Matrix}
 use Rattle.geom.specs.declared.rect.Rect.{Rect}
 use Rattle.geom.specs.declared.rect.Ruler.{Ruler}
 use Rattle.record.specs.Good.{good_clip, good_opacity, good_group, good_mark}
+use Rattle.sink.specs.Zeroed.{nought, unit}
 use Rattle.record.specs.declared.Group.{Group}
 use Rattle.record.specs.declared.Mark.{Mark}
 
@@ -32,7 +33,7 @@ no_nan_bits x fits-it is = rw (nan_bits_is binary32 (to_bits binary32 x), of_bit
 
 -- ---- the parts
 
-pub matrix_parts : (m : Matrix) → finite_matrix m ≡ true
+matrix_parts : (m : Matrix) → finite_matrix m ≡ true
     → (float_is_finite m.a ≡ true) × (float_is_finite m.b ≡ true) × (float_is_finite m.c ≡ true) × (float_is_finite m.d ≡ true) × (float_is_finite m.e ≡ true) × (float_is_finite m.f ≡ true)
 unfolding finite_matrix
 matrix_parts m is =
@@ -43,7 +44,7 @@ matrix_parts m is =
     let b = and_parts _ _ c.0 in
     (b.0, b.1, c.1, d.1, e.1, f.1)
 
-pub clip_parts : (r : Rect) → good_clip (Some r) ≡ true → (float_is_finite r.x ≡ true) × (float_is_finite r.y ≡ true) × (float_is_finite r.w ≡ true) × (float_is_finite r.h ≡ true)
+clip_parts : (r : Rect) → good_clip (Some r) ≡ true → (float_is_finite r.x ≡ true) × (float_is_finite r.y ≡ true) × (float_is_finite r.w ≡ true) × (float_is_finite r.h ≡ true)
 unfolding good_clip finite_rect
 clip_parts r is =
     let h = and_parts _ _ (and_parts _ _ is).0 in
@@ -51,24 +52,27 @@ clip_parts r is =
     let y = and_parts _ _ w.0 in
     (y.0, y.1, w.1, h.1)
 
-pub ruler_parts : (r : Ruler) → finite_ruler r ≡ true → (float_is_finite r.w ≡ true) × (float_is_finite r.h ≡ true) × (float_is_finite r.f ≡ true)
+ruler_parts : (r : Ruler) → finite_ruler r ≡ true → (float_is_finite r.w ≡ true) × (float_is_finite r.h ≡ true) × (float_is_finite r.f ≡ true)
 unfolding finite_ruler
 ruler_parts r is =
     let f = and_parts _ _ is in
     let h = and_parts _ _ f.0 in
     (h.0, h.1, f.1)
 
+-- ---- all of the parts, in a list
+
+pub matrix_all : (m : Matrix) → finite_matrix m ≡ true → list_all float_is_finite (entries m) ≡ true
+matrix_all m is = let p = matrix_parts m is in rw (p.0, p.1, p.2, p.3, p.4, p.5) refl
+
+pub clip_all : (r : Rect) → good_clip (Some r) ≡ true → list_all float_is_finite (rect_floats r) ≡ true
+clip_all r is = let p = clip_parts r is in rw (p.0, p.1, p.2, p.3) refl
+
+pub ruler_all : (r : Ruler) → finite_ruler r ≡ true → list_all float_is_finite (ruler_floats r) ≡ true
+ruler_all r is = let p = ruler_parts r is in rw (p.0, p.1, p.2) refl
+
 pub mark_part : (m : Mark) → good_mark m ≡ true → finite_ruler m.ruler ≡ true
 unfolding good_mark
 mark_part m is = is
-
-nought : decimal 0 1 ≡ fin false 0 (pos 0)
-unfolding decimal round odd units size span climb count_trailing_zeros
-nought = refl
-
-unit : decimal 1 1 ≡ fin false 1 (pos 0)
-unfolding decimal round odd units size span climb count_trailing_zeros
-unit = refl
 
 in_range : (x : Float) → le (fin false 0 (pos 0)) x ≡ true → le x (fin false 1 (pos 0)) ≡ true → float_is_finite x ≡ true
 unfolding le lt eq float_is_finite

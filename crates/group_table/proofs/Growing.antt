@@ -2,9 +2,10 @@
 -- child so far, or else the first child of its group. Assumes nothing.
 use Rattle.std.proofs.Common.{◌≡◌, ℕ, zero, suc, ◌+◌, ◌<◌, ◌≤◌, true, List, [], ◌∷◌, ◌++◌, length, Some, None, Option, sym, refl, ap, ◌∙◌, subst, inl, inr, le_of_suc-le-suc, not-suc-le-zero, arith}
 use Rattle.std.specs.List.{slice_get}
-use Rattle.std.proofs.lemmas.List.{length_push, take-append-le}
+use Rattle.std.proofs.lemmas.List.{length_push, get_or_push, take-append-le}
+use Rattle.std.proofs.lemmas.Option.{slice_get_read}
 use Rattle.std.proofs.lemmas.Bool.{cases_lt, cases_order, cond-true, cond-false, cond_both, cases_Bool}
-use Rattle.record.specs.declared.Record.{Record}
+use Rattle.record.specs.Records.{Record}
 use Rattle.sink.specs.Script.{level}
 use Rattle.group_table.specs.Links.{is_open, is_child, level_at, around, child_after, first_child_of, next_sibling_of}
 use Rattle.group_table.specs.Invariant.{last_child}
@@ -18,8 +19,7 @@ nth_before (q ∷ s) t zero h = refl
 nth_before (q ∷ s) t (suc m) h = nth_before s t m (le_of_suc-le-suc h)
 
 pub nth_last : (s : List Record) (r : Record) → slice_get (s ++ r ∷ []) (length s) ≡ Some r
-nth_last [] r = refl
-nth_last (q ∷ s) r = nth_last s r
+nth_last s r = slice_get_read (s ++ r ∷ []) (length s + 1) (length s) r (sym (length_push s r)) (omega arith) (sym (get_or_push s r r (length s) refl))
 
 module _ (s : List Record) (r : Record) where
   abbrev grown : List Record

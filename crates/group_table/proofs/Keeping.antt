@@ -2,20 +2,20 @@
 use Rattle.std.proofs.Common.{◌≡◌, ℕ, zero, suc, ◌+◌, ◌<◌, ◌≤◌, min, true, ◌⊎◌, List, [], ◌∷◌, ◌++◌, map, length, take, set, Some, None, Option, sym, refl, ap, ◌∙◌, subst, inl, inr, add-one, arith}
 use mathlib.Core.List.{map-append}
 use Rattle.std.specs.List.{slice_get}
+use Rattle.std.specs.Option.{ForSome}
 use Rattle.std.proofs.lemmas.List.{length-map, length-set, length-take-le, take_more_set, take_at, get_or-set_same, get_or-set_other}
 use Rattle.std.proofs.lemmas.Bool.{cases_lt, cases_eq, false≢true}
 use Rattle.record.specs.Zero.{zeroed_record}
-use Rattle.record.specs.declared.Record.{Record}
-use Rattle.record.specs.declared.Record.TheVariants as variants
+use Rattle.record.specs.Records.{Record}
+use Rattle.record.specs.declared.Event.TheVariants as variants
 use Rattle.sink.specs.Meaning.{most_places}
-use Rattle.sink.specs.Script.{opens, closes}
-use Rattle.sink.proofs.Counting.{opens_append, closes_append}
+use Rattle.sink.specs.declared.room.Room.{Room}
+use Rattle.sink.specs.Rooms.{IsRoomOf}
 use Rattle.group_table.specs.declared.entry.Entry.{Entry}
-use Rattle.group_table.specs.declared.entry.Item.{Item}
-use Rattle.group_table.specs.declared.entry.Item.TheVariants.{Closed}
-use Rattle.group_table.specs.Entries.{at, blank, record_of, script_of, sound, Within, new_entry, with_first, with_next, tied}
+use Rattle.group_table.specs.declared.table.Turn.{Turn}
+use Rattle.group_table.specs.Entries.{Item, at, blank, record_of, script_of, Within, new_entry, with_first, with_next, tied}
 use Rattle.group_table.specs.Links.{same, is_child, around, last_below, first_child_of, next_sibling_of}
-use Rattle.group_table.specs.Invariant.{last_child, Kept, Ends, LinksOf, Linked}
+use Rattle.group_table.specs.Invariant.{last_child, Ends, GoesOn, meaning_with, LinksOf, Linked}
 use Rattle.group_table.proofs.Scans.{same_refl, same_true, none_some}
 use Rattle.group_table.proofs.Levels.{around_before}
 use Rattle.group_table.proofs.Nesting.{last_child_before}
@@ -59,11 +59,6 @@ module _ (es : List Entry) (new : ℕ) where
   length_tied (Some i) None = length-set es i (with_first (at es i) new)
   length_tied None None = refl
 
-  item_tied : (parent last : Option ℕ) → Within parent (length es) → Within last (length es) → (i : ℕ) → (at (tied es parent last new) i).item ≡ (at es i).item
-  item_tied parent (Some i) p l = set_field (λ e. e.item) es i (with_next (at es i) new) l refl
-  item_tied (Some i) None p l = set_field (λ e. e.item) es i (with_first (at es i) new) p refl
-  item_tied None None p l = λ i. refl
-
   parent_tied : (parent last : Option ℕ) → Within parent (length es) → Within last (length es) → (i : ℕ) → (at (tied es parent last new) i).parent ≡ (at es i).parent
   parent_tied parent (Some i) p l = set_field (λ e. e.parent) es i (with_next (at es i) new) l refl
   parent_tied (Some i) None p l = set_field (λ e. e.parent) es i (with_first (at es i) new) p refl
@@ -71,8 +66,14 @@ module _ (es : List Entry) (new : ℕ) where
 
 -- ---- the links after a child was added
 
-abbrev pub Whole : List Entry → ℕ → ℕ → Option ℕ → Option ℕ → Type 0
-Whole es n k inside last = record { kept : Kept es n k; ends : Ends es n inside last; linked : Linked es n }
+abbrev pub Going : List Entry → ℕ → Option Turn → Type 0
+Going es n turn = ForSome turn (λ t. GoesOn es n t.room t.inside t.last)
+
+abbrev pub Whole : List Entry → ℕ → Option Turn → Type 0
+Whole es n turn = record { within : n ≤ min (length es) most_places; going : Going es n turn; linked : Linked es n }
+
+pub turn_goes_on : (es : List Entry) (n : ℕ) (turn : Turn) → GoesOn es n turn.room turn.inside turn.last → Going es n (Some turn)
+turn_goes_on es n turn is = λ t e. let same : turn ≡ t = cc in subst (λ (u : Turn). GoesOn es n u.room u.inside u.last) same is
 
 agree : (o p : Option ℕ) → o ≡ p → same o p ≡ true
 agree o p e = subst (λ (q : Option ℕ). same o q ≡ true) e (same_refl o)
@@ -184,22 +185,6 @@ module _ (es : List Entry) (n : ℕ) (within : n < length es) (linked : Linked e
       child_itself None None a l = new_at item None
       child_itself (Some g) None a l = get_or-set_other (with_new item (Some g)) g n _ blank (omega (arith, around_before now_script n g (sym a))) ∙ new_at item (Some g)
 
-    -- ---- counts
-
-    module _ (es' : List Entry) (item : Item) (k k' : ℕ) where
-      pub kept_more : Kept es n k → length es' ≡ length es → script_of es' (n + 1) ≡ more → ((i : ℕ) → i < n → (at es' i).item ≡ (at es i).item) → (at es' n).item ≡ item → sound item ≡ true
-          → n + 1 + k' ≤ min (length es) most_places → k' + closes (r ∷ []) ≡ k + opens (r ∷ []) → Kept es' (n + 1) k'
-      kept_more kept same_length is-more before_same New-is is-sound room count =
-          let o : opens (script_of es' (n + 1)) ≡ opens now_script + opens (r ∷ []) = ap opens is-more ∙ opens_append now_script (r ∷ []) in
-          let c : closes (script_of es' (n + 1)) ≡ closes now_script + closes (r ∷ []) = ap closes is-more ∙ closes_append now_script (r ∷ []) in (
-            rw same_length room,
-            omega (arith, o, c, kept.1, count),
-            λ i h. elim (upto h) [
-              | inl low ↦ ap sound (before_same i low) ∙ kept.2 i low
-              | inr end ↦ ap (λ (j : ℕ). sound (at es' j).item) end ∙ ap sound New-is ∙ is-sound
-            ],
-          )
-
   -- ---- one child more
 
   module _ (item : Item) (parent last : Option ℕ) (a : parent ≡ around now_script n) (l : last ≡ last_child now_script n) where
@@ -240,26 +225,19 @@ module _ (es : List Entry) (n : ℕ) (within : n < length es) (linked : Linked e
       )
     ])
 
-    pub child_kept : is_child (Some child_record) ≡ true → (k k' : ℕ) → Kept es n k → sound item ≡ true → n + 1 + k' ≤ min (length es) most_places → k' + closes (child_record ∷ []) ≡ k + opens (child_record ∷ []) → Kept with_child (n + 1) k'
-    child_kept is k k' kept is-sound room count =
-        kept_more child_record with_child item k k' kept (length_tied (with_new item parent) n parent last ∙ length-set es n (new_entry item parent)) script_child
-        (λ i low. item_tied (with_new item parent) n parent last within_parent within_last i ∙ ap (λ (e : Entry). e.item) (old_at item parent i low))
-        (ap (λ (e : Entry). e.item) (child_itself child_record is item parent last a l))
-        is-sound room count
-
   -- ---- one close more
 
-  pub close_linked : (parent : Option ℕ) → parent ≡ around now_script n → Linked (with_new Closed parent) (n + 1)
-  close_linked parent a = λ i h. rw (script_new Closed parent) (elim (upto h) [
+  pub close_linked : (parent : Option ℕ) → parent ≡ around now_script n → Linked (with_new variants.Close parent) (n + 1)
+  close_linked parent a = λ i h. rw (script_new variants.Close parent) (elim (upto h) [
     | inl low ↦ (
-      agree _ _ (ap (λ (e : Entry). e.parent) (old_at Closed parent i low) ∙ old_parent i low ∙ sym (around_old variants.Close i (omega arith))),
-      agree _ _ (ap (λ (e : Entry). e.first_child) (old_at Closed parent i low) ∙ first_stays variants.Close i low (λ is _ _. false≢true is)),
-      agree _ _ (ap (λ (e : Entry). e.next_sibling) (old_at Closed parent i low) ∙ next_stays variants.Close i low (λ is _. false≢true is)),
+      agree _ _ (ap (λ (e : Entry). e.parent) (old_at variants.Close parent i low) ∙ old_parent i low ∙ sym (around_old variants.Close i (omega arith))),
+      agree _ _ (ap (λ (e : Entry). e.first_child) (old_at variants.Close parent i low) ∙ first_stays variants.Close i low (λ is _ _. false≢true is)),
+      agree _ _ (ap (λ (e : Entry). e.next_sibling) (old_at variants.Close parent i low) ∙ next_stays variants.Close i low (λ is _. false≢true is)),
     )
-    | inr end ↦ subst (λ (j : ℕ). LinksOf (now_script ++ variants.Close ∷ []) j (at (with_new Closed parent) j)) (sym end) (
-      agree _ _ (ap (λ (e : Entry). e.parent) (new_at Closed parent) ∙ a ∙ sym (around_old variants.Close n (omega arith))),
-      agree _ _ (ap (λ (e : Entry). e.first_child) (new_at Closed parent) ∙ sym (first_at_end variants.Close)),
-      agree _ _ (ap (λ (e : Entry). e.next_sibling) (new_at Closed parent) ∙ sym (next_at_end variants.Close)),
+    | inr end ↦ subst (λ (j : ℕ). LinksOf (now_script ++ variants.Close ∷ []) j (at (with_new variants.Close parent) j)) (sym end) (
+      agree _ _ (ap (λ (e : Entry). e.parent) (new_at variants.Close parent) ∙ a ∙ sym (around_old variants.Close n (omega arith))),
+      agree _ _ (ap (λ (e : Entry). e.first_child) (new_at variants.Close parent) ∙ sym (first_at_end variants.Close)),
+      agree _ _ (ap (λ (e : Entry). e.next_sibling) (new_at variants.Close parent) ∙ sym (next_at_end variants.Close)),
     )
   ])
 
@@ -276,6 +254,15 @@ module _ (s : List Record) (n : ℕ) (len : length s ≡ n) (r : Record) where
 pub ends_are : (es : List Entry) (n : ℕ) (s : List Record) (inside last : Option ℕ) → script_of es (n + 1) ≡ s → around s (suc n) ≡ inside → last_child s (suc n) ≡ last → Ends es (n + 1) inside last
 ends_are es n s inside last is a l = rw (is, add-one) (agree inside _ (sym a), agree last _ (sym l))
 
-pub fresh : (es : List Entry) → Whole es 0 0 None None
+-- nothing in use, and no turn
+pub fresh : (es : List Entry) → Whole es 0 None
+fresh es = record { within = omega arith; going = λ t e. let z : ◌≡◌ {A = ℕ} 0 1 = cc in absurd (omega arith); linked = λ i h. absurd (omega arith) }
+
+-- a turn of nothing yet
+pub begun : (es : List Entry) (room : Room) → IsRoomOf room (meaning_with es 0 true) → Whole es 0 (Some (record { room = room; inside = None; last = None }))
 unfolding around last_child last_below
-fresh es = record { kept = (omega arith, refl, λ i h. absurd (omega arith)); ends = (refl, refl); linked = λ i h. absurd (omega arith) }
+begun es room is = record {
+  within = (fresh es).within;
+  going = turn_goes_on es 0 (record { room = room; inside = None; last = None }) (is, (refl, refl));
+  linked = (fresh es).linked;
+}

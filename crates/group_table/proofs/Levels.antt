@@ -1,9 +1,11 @@
 -- The groups that are open before a record of a script. Assumes nothing.
 use Rattle.std.proofs.Common.{◌≡◌, ℕ, zero, suc, ◌+◌, ◌-◌, ◌<◌, ◌≤◌, true, ◌&&◌, eqb, List, [], ◌∷◌, ◌++◌, take, Some, None, Decides, Option, sym, refl, ap, ◌∙◌, subst, inl, inr, add-zero, arith}
 use Rattle.std.specs.List.{slice_get}
+use Rattle.std.proofs.Math.Seq.{take-suc}
+use Rattle.std.proofs.lemmas.Option.{slice_get_within, get_or_from_slice_get}
 use Rattle.std.proofs.lemmas.Bool.{cases_lt, eqb-true, eq-eqb, and_parts, and_from}
-use Rattle.record.specs.declared.Record.{Record}
-use Rattle.record.specs.declared.Record.TheVariants.{Open, Mark, Close}
+use Rattle.record.specs.Records.{Record}
+use Rattle.record.specs.declared.Event.TheVariants.{Open, Mark, Close}
 use Rattle.sink.specs.Script.{opens, closes, level}
 use Rattle.sink.proofs.Counting.{opens_append, closes_append}
 use Rattle.group_table.specs.Links.{is_open, level_at, around, Encloses, Innermost}
@@ -18,9 +20,7 @@ take_none (r ∷ s) zero is = let z : ◌≡◌ {A = ℕ} 0 1 = cc in absurd (om
 take_none (r ∷ s) (suc n) is = ap (λ (t : List Record). r ∷ t) (take_none s n is)
 
 pub take_some : (s : List Record) (n : ℕ) (r : Record) → slice_get s n ≡ Some r → take (suc n) s ≡ take n s ++ r ∷ []
-take_some [] n r is = let z : ◌≡◌ {A = ℕ} 0 1 = cc in absurd (omega arith)
-take_some (q ∷ s) zero r is = let e : q ≡ r = cc in ap (λ (t : Record). t ∷ []) e
-take_some (q ∷ s) (suc n) r is = ap (λ (t : List Record). q ∷ t) (take_some s n r is)
+take_some s n r is = take-suc s n r (slice_get_within s n r is) ∙ ap (λ (q : Record). take n s ++ q ∷ []) (get_or_from_slice_get s n r r is)
 
 module _ (s : List Record) (n : ℕ) where
   level_none : slice_get s n ≡ None → level_at s (suc n) ≡ level_at s n

@@ -1,3 +1,4 @@
+mod Packing
 mod Finite
 mod Scans
 mod Levels
@@ -5,5 +6,4 @@ mod Nesting
 mod Growing
 mod Keeping
 mod Steps
-mod Calls
 mod Reading

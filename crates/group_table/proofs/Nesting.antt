@@ -4,8 +4,8 @@ use Rattle.std.specs.List.{slice_get}
 use Rattle.std.proofs.lemmas.Bool.{cases_lt, both_ways, and_parts, and_from}
 use Rattle.record.specs.declared.Group.{Group}
 use Rattle.record.specs.declared.Mark.{Mark}
-use Rattle.record.specs.declared.Record.{Record}
-use Rattle.record.specs.declared.Record.TheVariants as variants
+use Rattle.record.specs.Records.{Record}
+use Rattle.record.specs.declared.Event.TheVariants as variants
 use Rattle.sink.specs.Script.{opens, closes}
 use Rattle.group_table.specs.Links.{is_open, is_child, level_at, around, same, child_after}
 use Rattle.group_table.specs.Invariant.{last_child}

@@ -1,16 +1,15 @@
 -- What a table's questions answer from an entry is what the script says. Assumes nothing.
-use Rattle.std.proofs.Common.{◌≡◌, ℕ, zero, suc, ◌+◌, ◌-◌, ◌<◌, ◌≤◌, true, List, [], ◌∷◌, map, length, take, Some, None, sym, refl, ap, ◌∙◌, suc-le-suc, zero-le, le_of_suc-le-suc, not-suc-le-zero, arith}
-use Rattle.std.specs.Option.{option_map}
+use Rattle.std.proofs.Common.{◌≡◌, ℕ, zero, suc, ◌+◌, ◌-◌, ◌<◌, ◌≤◌, List, [], ◌∷◌, length, take, Some, None, sym, refl, ap, ◌∙◌, inl, inr, arith}
 use Rattle.std.specs.List.{slice_get}
-use Rattle.std.proofs.lemmas.Option.{slice_get_past}
-use Rattle.std.proofs.lemmas.Bool.{lt-ltb, le-ltb, eq-eqb, ne_eqb, cond-true, cond-false}
+use Rattle.std.proofs.lemmas.Option.{slice_get_past, slice_get_within, slice_get-get_or, get_or_from_slice_get}
+use Rattle.std.proofs.lemmas.List.{length-take, get_or-take}
+use Rattle.std.proofs.lemmas.Bool.{cases_lt, lt-ltb, le-ltb, eq-eqb, ne_eqb, cond-true, cond-false}
 use Rattle.list.specs.Places.{place_of}
 use Rattle.record.specs.Zero.{zeroed_record, zeroed_group}
-use Rattle.record.specs.declared.Record.{Record}
+use Rattle.record.specs.Records.{Record}
 use Rattle.group_table.specs.declared.entry.Entry.{Entry}
-use Rattle.group_table.specs.declared.entry.Item.{Item}
-use Rattle.group_table.specs.declared.entry.Item.TheVariants.{Closed, Opened, Marked}
-use Rattle.group_table.specs.Entries.{at, id_of, record_of, script_of, sound}
+use Rattle.record.specs.declared.Event.TheVariants.{Open, Mark, Close}
+use Rattle.group_table.specs.Entries.{Item, at, blank, id_of, record_of, script_of}
 use Rattle.group_table.specs.Finding.{opened_id, group_with}
 use Rattle.group_table.specs.Links.{is_child, around, first_from, child_after, parent_of, first_child_of, next_sibling_of}
 use Rattle.group_table.proofs.Scans.{same_true}
@@ -22,22 +21,16 @@ use Rattle.group_table.proofs.Steps.{held}
 
 -- ---- reads of entries in use
 
-nth_map : {X Y : Type 0} (f : X → Y) (xs : List X) (i : ℕ) → slice_get (map f xs) i ≡ option_map f (slice_get xs i)
-nth_map f [] i = refl
-nth_map f (x ∷ xs) zero = refl
-nth_map f (x ∷ xs) (suc i) = nth_map f xs i
-
 read_at : (es : List Entry) (n i : ℕ) (e : Entry) → slice_get (take n es) i ≡ Some e → (i < n) × (at es i ≡ e)
-read_at es zero i e is = let z : ◌≡◌ {A = ℕ} 0 1 = cc in absurd (omega arith)
-read_at [] (suc n) i e is = let z : ◌≡◌ {A = ℕ} 0 1 = cc in absurd (omega arith)
-read_at (x ∷ es) (suc n) zero e is = (suc-le-suc zero-le, cc)
-read_at (x ∷ es) (suc n) (suc i) e is = let p = read_at es n i e is in (suc-le-suc p.0, p.1)
+read_at es n i e is =
+    let low : i < n = omega (arith, slice_get_within (take n es) i e is, length-take n es) in
+    (low, sym (get_or-take n es i blank low) ∙ get_or_from_slice_get (take n es) i e blank is)
 
 read_past : (es : List Entry) (n i : ℕ) → n ≤ length es → slice_get (take n es) i ≡ None → n ≤ i
-read_past es zero i h is = zero-le
-read_past [] (suc n) i h is = absurd (not-suc-le-zero h)
-read_past (x ∷ es) (suc n) zero h is = let z : ◌≡◌ {A = ℕ} 0 1 = cc in absurd (omega arith)
-read_past (x ∷ es) (suc n) (suc i) h is = suc-le-suc (read_past es n i (le_of_suc-le-suc h) is)
+read_past es n i h is = elim (cases_lt i n) [
+  | inl low ↦ let there = slice_get-get_or (take n es) i blank (omega (arith, length-take n es)) in let z : ◌≡◌ {A = ℕ} 0 1 = cc in absurd (omega arith)
+  | inr high ↦ high
+]
 
 -- ---- past the end
 
@@ -58,14 +51,11 @@ module _ (s : List Record) (i : ℕ) (past : length s ≤ i) where
 
 module _ (t : GroupTable) (i : ℕ) where
   len : length (script t) ≡ t.entries.count
-  len = length_script (held t) t.entries.count (omega (arith, t.kept.0))
+  len = length_script (held t) t.entries.count (omega (arith, t.within))
 
   pub past_end : slice_get (used (held t) t.entries.count) i ≡ None → length (script t) ≤ i
   past_end is =
-      let h : t.entries.count ≤ length (held t) = omega (arith, t.kept.0) in omega (arith, len, read_past (held t) t.entries.count i h is)
-
-  pub record_past : slice_get (used (held t) t.entries.count) i ≡ None → None ≡ slice_get (script t) i
-  record_past is = sym (slice_get_past (script t) i (past_end is))
+      let h : t.entries.count ≤ length (held t) = omega (arith, t.within) in omega (arith, len, read_past (held t) t.entries.count i h is)
 
   module _ (e : Entry) (is : slice_get (used (held t) t.entries.count) i ≡ Some e) where
     in_use : i < t.entries.count
@@ -73,12 +63,6 @@ module _ (t : GroupTable) (i : ℕ) where
 
     there : at (held t) i ≡ e
     there = (read_at (held t) t.entries.count i e is).1
-
-    pub sound_read : sound e.item ≡ true
-    sound_read = sym (ap (λ (x : Entry). sound x.item) there) ∙ t.kept.2 i in_use
-
-    pub record_read : Some (zeroed_record (record_of e.item)) ≡ slice_get (script t) i
-    record_read = sym (nth_map (λ e. zeroed_record (record_of e.item)) (used (held t) t.entries.count) i ∙ ap (option_map (λ e. zeroed_record (record_of e.item))) is)
 
     pub parent_read : e.parent ≡ parent_of (script t) i
     unfolding parent_of
@@ -96,9 +80,9 @@ module _ (t : GroupTable) (i : ℕ) where
 
 same_id : (item : Item) → opened_id (zeroed_record (record_of item)) ≡ id_of item
 unfolding zeroed_group
-same_id Closed = refl
-same_id (Opened g) = refl
-same_id (Marked m) = refl
+same_id Close = refl
+same_id (Open g) = refl
+same_id (Mark m) = refl
 
 place_script : (id : ℕ) (es : List Entry) (n : ℕ) → place_of (λ e. id_of e.item) id (take n es) ≡ place_of opened_id id (script_of es n)
 unfolding place_of

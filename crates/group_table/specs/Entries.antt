@@ -1,35 +1,35 @@
 -- The records that entries stand for.
-use Rattle.std.specs.Prelude.{ℕ, ◌<◌, Bool, true, List, map, take, Some, None, Option, slice_index_or, slice_set}
+use Rattle.std.specs.Prelude.{ℕ, ◌<◌, List, map, take, Some, None, Option, slice_index_or, slice_set}
 use Rattle.record.specs.Zero.{zeroed_record}
-use Rattle.record.specs.declared.Record.{Record}
-use Rattle.record.specs.declared.Record.TheVariants.{Open, Mark, Close}
+use Rattle.record.specs.Records.{Record}
+use Rattle.record.specs.declared.Event.{Event}
+use Rattle.record.specs.declared.Event.TheVariants.{Open, Mark, Close}
+use Rattle.group_table.specs.declared.packed.GroupBits.{GroupBits}
+use Rattle.group_table.specs.declared.packed.MarkBits.{MarkBits}
 use Rattle.group_table.specs.declared.entry.Entry.{Entry}
-use Rattle.group_table.specs.declared.entry.Item.{Item}
-use Rattle.group_table.specs.declared.entry.Item.TheVariants.{Closed, Opened, Marked}
-use Rattle.group_table.specs.Bits.{group_of, mark_of, sound_group, sound_mark}
+use Rattle.group_table.specs.Bits.{group_of, mark_of}
+
+-- what an entry says, without its links
+abbrev pub Item : Type 0
+Item = Event GroupBits MarkBits
 
 abbrev pub record_of : Item → Record
-record_of Closed = Close
-record_of (Opened g) = Open (group_of g)
-record_of (Marked m) = Mark (mark_of m)
-
-abbrev pub sound : Item → Bool
-sound Closed = true
-sound (Opened g) = sound_group g
-sound (Marked m) = sound_mark m
+record_of Close = Close
+record_of (Open g) = Open (group_of g)
+record_of (Mark m) = Mark (mark_of m)
 
 -- the id of the group that an entry opens, or 0
 abbrev pub id_of : Item → ℕ
-id_of Closed = 0
-id_of (Opened g) = g.id
-id_of (Marked m) = 0
+id_of Close = 0
+id_of (Open g) = g.id
+id_of (Mark m) = 0
 
 -- the script of the first n entries: entry i is record i, with no sign on a zero
 abbrev pub script_of : List Entry → ℕ → List Record
 script_of es n = map (λ e. zeroed_record (record_of e.item)) (take n es)
 
 abbrev pub blank : Entry
-blank = record { item = Closed; parent = None; first_child = None; next_sibling = None }
+blank = record { item = Close; parent = None; first_child = None; next_sibling = None }
 
 abbrev pub at : List Entry → ℕ → Entry
 at es i = slice_index_or es i blank

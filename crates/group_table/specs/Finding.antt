@@ -1,8 +1,8 @@
 -- The group with an id.
 use Rattle.std.specs.Prelude.{ℕ, cond, List, None, Option, ◌==◌}
 use Rattle.list.specs.Places.{place_of}
-use Rattle.record.specs.declared.Record.{Record}
-use Rattle.record.specs.declared.Record.TheVariants.{Open, Mark, Close}
+use Rattle.record.specs.Records.{Record}
+use Rattle.record.specs.declared.Event.TheVariants.{Open, Mark, Close}
 
 -- the id of the group that a record opens; 0, which is no id, where it opens none
 abbrev pub opened_id : Record → ℕ

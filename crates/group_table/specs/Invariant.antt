@@ -1,16 +1,13 @@
 -- What holds at all times of a table with n entries in use.
-use Rattle.std.specs.Prelude.{◌≡◌, ℕ, ◌+◌, ◌<◌, ◌≤◌, min, true, ◌&&◌, List, length, Option}
+use Rattle.std.specs.Prelude.{◌≡◌, ℕ, ◌<◌, Bool, true, ◌&&◌, List, length, Option}
 use Rattle.std.specs.List.{slice_get}
-use Rattle.record.specs.declared.Record.{Record}
-use Rattle.sink.specs.Meaning.{most_places}
-use Rattle.sink.specs.Script.{opens, closes}
+use Rattle.record.specs.Records.{Record}
+use Rattle.sink.specs.declared.room.Room.{Room}
+use Rattle.sink.specs.Meaning.{Meaning, unlayered, limit_of}
+use Rattle.sink.specs.Rooms.{IsRoomOf}
 use Rattle.group_table.specs.declared.entry.Entry.{Entry}
-use Rattle.group_table.specs.Entries.{at, script_of, sound}
+use Rattle.group_table.specs.Entries.{at, script_of}
 use Rattle.group_table.specs.Links.{same, is_child, last_below, around, first_child_of, next_sibling_of}
-
--- k groups are open, with room to close them, and no float of an entry is a NaN
-abbrev pub Kept : List Entry → ℕ → ℕ → Type 0
-Kept es n k = (n + k ≤ min (length es) most_places) × (k + closes (script_of es n) ≡ opens (script_of es n)) × ((i : ℕ) → i < n → sound (at es i).item ≡ true)
 
 -- the last child before record n of the group that is open there
 unfoldable pub last_child : List Record → ℕ → Option ℕ
@@ -19,6 +16,14 @@ last_child s n = last_below (λ m. is_child (slice_get s m) && same (around s m)
 -- `inside` is the innermost open group, and `last` its last child so far
 abbrev pub Ends : List Entry → ℕ → Option ℕ → Option ℕ → Type 0
 Ends es n inside last = (same inside (around (script_of es n) n) ≡ true) × (same last (last_child (script_of es n) n) ≡ true)
+
+-- no base and no rewriting, and as many places as entries
+abbrev pub meaning_with : List Entry → ℕ → Bool → Meaning
+meaning_with es n turn = unlayered (script_of es n) turn (limit_of (length es))
+
+-- a turn goes on: it has this room, and goes on after these two
+abbrev pub GoesOn : List Entry → ℕ → Room → Option ℕ → Option ℕ → Type 0
+GoesOn es n room inside last = IsRoomOf room (meaning_with es n true) × Ends es n inside last
 
 -- the links of an entry are those of record i of the script
 abbrev pub LinksOf : List Record → ℕ → Entry → Type 0

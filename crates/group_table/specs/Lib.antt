@@ -1,3 +1,4 @@
+pub mod Floats
 pub mod Bits
 pub mod Entries
 pub mod Links

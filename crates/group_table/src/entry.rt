@@ -1,20 +1,15 @@
-ghost use Rattle.std.specs.Prelude.{◌≡◌, true};
-ghost use Rattle.group_table.specs.Entries.{record_of, sound, id_of, blank};
+ghost use Rattle.std.specs.Prelude.{◌≡◌};
+ghost use Rattle.group_table.specs.Entries.{record_of, id_of, blank};
 
-use crate::bits::{GroupBits, MarkBits};
+use crate::packed::{GroupBits, MarkBits};
 use list::{Number, Numbered};
-use record::Record;
+use record::{Event, Record};
 
 /// The type of an entry's place in the table.
 pub type Place = u16;
 
 /// What an entry says, without its links.
-#[derive(Clone, Copy)]
-pub enum Item {
-    Closed,
-    Opened(GroupBits),
-    Marked(MarkBits),
-}
+pub type Item = Event<GroupBits, MarkBits>;
 
 /// One record of the table, and its links to other entries.
 #[derive(Clone, Copy)]
@@ -25,27 +20,26 @@ pub struct Entry {
     pub(crate) next_sibling: Option<Place>,
 }
 
-impl Item {
-    /// The record that the item stands for.
+impl Entry {
+    /// The record that the entry stands for.
     pub(crate) fn record(self) -> Record
-        requires { sound self ≡ true }
-        ensures { result ≡ record_of self }
+        ensures { result ≡ record_of self.item }
     {
-        match self {
-            Item::Closed => Record::Close,
-            Item::Opened(group) => Record::Open(group.unpack()),
-            Item::Marked(mark) => Record::Mark(mark.unpack()),
+        match self.item {
+            Item::Open(group) => Record::Open(group.into()),
+            Item::Mark(mark) => Record::Mark(mark.into()),
+            Item::Close => Record::Close,
         }
     }
 }
 
-impl Entry {
-    /// An entry to fill memory with.
-    pub fn blank() -> Entry
-        ensures { result ≡ blank }
-    {
+/// An entry to fill memory with.
+impl Default for Entry {
+    ghost is_default = { λ e. e ≡ blank };
+
+    fn default() -> Entry {
         Entry {
-            item: Item::Closed,
+            item: Item::Close,
             parent: None,
             first_child: None,
             next_sibling: None,
@@ -59,8 +53,8 @@ impl Numbered for Entry {
 
     fn id(&self) -> Number {
         match self.item {
-            Item::Opened(group) => group.id,
-            Item::Marked(_) | Item::Closed => 0,
+            Item::Open(group) => group.id,
+            Item::Mark(_) | Item::Close => 0,
         }
     }
 }

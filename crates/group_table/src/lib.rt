@@ -6,6 +6,7 @@ mod bits;
 mod entries;
 mod entry;
 mod laws;
+mod packed;
 mod table;
 
 pub use entry::Entry;
@@ -54,25 +55,20 @@ mod tests {
 
     #[test]
     fn links(rt: HostRuntime) -> Result<(), Fail> {
-        let mut table = GroupTable::new(vec![in rt.alloc(); Entry::blank(); 6]?);
+        let mut table = GroupTable::new(vec![in rt.alloc(); Entry::default(); 6]?);
         assert!(rt; draw(&mut table).is_ok());
         assert_eq!(rt; table.parent(3), Some(2));
         assert_eq!(rt; table.first_child(0), Some(1));
         assert_eq!(rt; table.next_sibling(1), Some(2));
         assert_eq!(rt; table.next_sibling(2), Some(4));
-        match table.record(4) {
-            Some(Record::Mark(mark)) => {
-                assert!(rt; mark.leaf == 2 && mark.ruler.w == 100.0);
-                Ok(())
-            },
-            _ => Err(Fail::new("no mark")),
-        }
+        assert_eq!(rt; table.record(4), Some(Record::Mark(mark(2))));
+        Ok(())
     }
 
     #[test]
     fn full(rt: HostRuntime) -> Result<(), Fail> {
-        let mut table = GroupTable::new(vec![in rt.alloc(); Entry::blank(); 5]?);
-        assert!(rt; matches!(draw(&mut table), Err(SinkFault::NoPlaces)));
+        let mut table = GroupTable::new(vec![in rt.alloc(); Entry::default(); 5]?);
+        assert_eq!(rt; draw(&mut table), Err(SinkFault::NoPlaces));
         assert_eq!(rt; table.count(), 4);
         assert_eq!(rt; table.depth(), Some(1));
         Ok(())
@@ -80,7 +76,7 @@ mod tests {
 
     #[test]
     fn find(rt: HostRuntime) -> Result<(), Fail> {
-        let mut table = GroupTable::new(vec![in rt.alloc(); Entry::blank(); 8]?);
+        let mut table = GroupTable::new(vec![in rt.alloc(); Entry::default(); 8]?);
         assert!(rt; draw(&mut table).is_ok());
         assert_eq!(rt; table.find_group(5), Some(2));
         assert_eq!(rt; table.find_group(0), None);

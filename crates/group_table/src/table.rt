@@ -1,24 +1,33 @@
-ghost use Rattle.group_table.specs.Invariant.{Kept, Ends, Linked};
+ghost use Rattle.std.specs.Prelude.{◌≤◌, min, length};
+ghost use Rattle.std.specs.Option.{ForSome};
+ghost use Rattle.sink.specs.Meaning.{most_places};
+ghost use Rattle.group_table.specs.Invariant.{GoesOn, Linked};
 
 use crate::entries::Entries;
 use crate::entry::Place;
+use sink::Room;
 
 mod calls;
 mod questions;
+
+/// A turn, as it stands.
+#[derive(Clone, Copy)]
+pub struct Turn {
+    pub(crate) room: Room,
+    /// The open of the innermost open group.
+    pub(crate) inside: Option<Place>,
+    /// The last child so far of that group, or of none.
+    pub(crate) last: Option<Place>,
+}
 
 /// A sink that keeps its records as entries linked by parent, child and sibling, in memory of its own.
 /// Entry n is record n of the script.
 #[derive(Drop)]
 pub struct GroupTable {
     entries: Entries,
-    /// How many groups are open.
-    nested: usize,
-    turn: bool,
-    /// The open of the innermost open group.
-    inside: Option<Place>,
-    /// The last child so far of that group, or of none.
-    last: Option<Place>,
-    ghost kept: { Kept entries.memory.items entries.count nested },
-    ghost ends: { Ends entries.memory.items entries.count inside last },
+    /// None out of turn.
+    turn: Option<Turn>,
+    ghost within: { entries.count ≤ min (length entries.memory.items) most_places },
+    ghost going: { ForSome turn (λ t. GoesOn entries.memory.items entries.count t.room t.inside t.last) },
     ghost linked: { Linked entries.memory.items entries.count },
 }

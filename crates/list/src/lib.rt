@@ -3,10 +3,12 @@
 
 #![tactic(auto)]
 
-ghost use Rattle.std.specs.Prelude.{◌≡◌, ℕ, min, length, nat_lt};
+ghost use Rattle.std.specs.Prelude.{◌≡◌, ℕ, min, length, is_some};
 ghost use Rattle.std.specs.List.{slice_get};
 ghost use Rattle.list.specs.Bounded.{used, count_added, Added, Replaced};
 ghost use Rattle.list.specs.Places.{place_of, Found};
+
+use std::mem;
 
 /// The type of a record's number.
 pub type Number = u16;
@@ -24,12 +26,19 @@ pub trait Numbered {
 #[derive(Clone, Copy, PartialEq, Eq, Debug)]
 pub struct Full;
 
+/// The records in use: the first `count` of those lent, or all where fewer are lent.
+pub fn in_use<T>(items: &[T], count: usize) -> &[T]
+    ensures { result.now ≡ used items.now count }
+{
+    &items[..count.min(items.len())]
+}
+
 /// How many records are in use: the count, as it is read.
 pub fn count<T>(items: &[T], count: usize) -> usize
     ensures listed { result ≡ length (used items.now count) }
     ensures bounded { result ≡ min count (length items.now) }
 {
-    count.min(items.len())
+    in_use(items, count).len()
 }
 
 /// Adds a record after those in use, and answers the new count. Where no place is free, nothing is written.
@@ -49,23 +58,19 @@ pub fn add<T: Copy>(items: &mut [T], count: usize, x: T) -> Result<usize, Full>
 pub fn read<T: Copy>(items: &[T], count: usize, i: usize) -> Option<T>
     ensures { result ≡ slice_get (used items.now count) i }
 {
-    if i < crate::count(items, count) {
-        Some(items[i])
-    } else {
-        None
-    }
+    in_use(items, count).get(i).copied()
 }
 
-/// Writes a record over the one at place i. Past the records in use it answers false, and nothing is written.
-pub fn replace<T: Copy>(items: &mut [T], count: usize, i: usize, x: T) -> bool
-    ensures answer { result ≡ nat_lt i (length (used items.old count)) }
-    ensures effect { Replaced items.old count i x result items.new }
+/// Writes a record over the one at place i, and answers that one. Past the records in use it answers none, and nothing
+/// is written.
+pub fn replace<T: Copy>(items: &mut [T], count: usize, i: usize, x: T) -> Option<T>
+    ensures answer { result ≡ slice_get (used items.old count) i }
+    ensures effect { Replaced items.old count i x (is_some result) items.new }
 {
     if i >= crate::count(items, count) {
-        return false;
+        return None;
     }
-    items[i] = x;
-    true
+    Some(mem::replace(&mut items[i], x))
 }
 
 /// The place of the first record in use that has the wanted number.
@@ -73,12 +78,8 @@ pub fn find<T: Numbered>(items: &[T], count: usize, wanted: Number) -> Option<us
     ensures answer { result ≡ place_of T.Numbered.number wanted (used items.now count) }
     ensures first { Found T.Numbered.number wanted (used items.now count) result }
 {
-    for i in 0..crate::count(items, count) {
-        if items[i].id() == wanted {
-            return Some(i);
-        }
-    }
-    None
+    let records = in_use(items, count);
+    records.iter().position(|record| record.id() == wanted)
 }
 
 #[cfg(test)]
@@ -125,7 +126,7 @@ mod tests {
         let mut tags = [BLANK; 2];
         assert_eq!(rt; count(&tags, 9), 2);
         assert_eq!(rt; add(&mut tags, 9, BLANK), Err(Full));
-        assert!(rt; !replace(&mut tags, 9, 2, BLANK));
+        assert_eq!(rt; replace(&mut tags, 9, 2, BLANK), None);
     }
 
     #[test]

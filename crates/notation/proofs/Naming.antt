@@ -1,16 +1,12 @@
 -- A text that is none of a table's names.
-use Rattle.std.proofs.Common.{◌≡◌, ℕ, Bool, true, false, List, [], ◌∷◌, None, refl, ◌∙◌}
+use Rattle.std.proofs.Common.{◌≡◌, ℕ, false, List, [], ◌∷◌, None, refl, ◌∙◌}
 use Rattle.std.specs.Str.{bytes_eq}
 use Rattle.std.proofs.lemmas.Slice.Eq.{bytes_eq-Decides}
-use Rattle.std.proofs.lemmas.Bool.{cond-false}
+use Rattle.std.proofs.lemmas.Bool.{false_from_ne_true, cond-false}
 use Rattle.notation.specs.Names.{named}
 
-not_so : (b : Bool) → (b ≡ true → ⊥) → b ≡ false
-not_so true f = absurd (f refl)
-not_so false f = refl
-
 pub other_text : (xs ys : List ℕ) → (xs ≡ ys → ⊥) → bytes_eq xs ys ≡ false
-other_text xs ys h = not_so (bytes_eq xs ys) (λ t. h ((bytes_eq-Decides xs ys).0 t))
+other_text xs ys h = false_from_ne_true (bytes_eq xs ys) (λ t. h ((bytes_eq-Decides xs ys).0 t))
 
 -- the text is none of the names
 abbrev pub Unlike : {A : Type 0} → List (List ℕ × A) → List ℕ → Type 0

@@ -1,10 +1,10 @@
 -- The unit at the end of a length's text.
-use Rattle.std.proofs.Common.{◌≡◌, ℕ, zero, suc, ◌-◌, ◌<◌, ◌≤◌, Bool, true, false, cond, ◌||◌, eqb, List, [], ◌∷◌, ◌++◌, length, get_or, take, drop, Some, None, codes, Option, sym, refl, ap, ◌∙◌, subst, append_assoc, append-nil, add-zero, arith, length-append, take-append-drop, take_at, drop_at}
+use Rattle.std.proofs.Common.{◌≡◌, ℕ, ◌-◌, ◌<◌, ◌≤◌, Bool, true, false, cond, ◌||◌, eqb, List, [], ◌∷◌, ◌++◌, length, get_or, take, drop, Some, None, codes, Option, sym, refl, ap, ◌∙◌, subst, rules, append_assoc, append-nil, add-zero, arith, length-append, take-append-drop, take_at, drop_at}
 use Rattle.std.specs.Float.Parse.{float_scan_step, completes_number, lowercases_to, without_sign, is_infinity_text, is_nan_text}
 use Rattle.std.specs.Char.{to_ascii_lowercase}
 use Rattle.std.specs.Str.{IsCharBoundary, bytes_eq}
 use Rattle.std.proofs.lemmas.Slice.Eq.{bytes_eq-Decides}
-use Rattle.std.proofs.lemmas.List.{get_or-drop}
+use Rattle.std.proofs.lemmas.List.{get_or-drop, get_or_default}
 use Rattle.std.proofs.lemmas.Bool.{cond-true, cond-false, both_ways, and_left, and_right, or_from}
 use Rattle.geom.specs.declared.length.Unit.{Unit as LengthUnit}
 use Rattle.geom.specs.declared.length.Unit.TheVariants as unit
@@ -50,7 +50,7 @@ two_parts (row ∷ rows) text t =
     go false p o e = e
 
 letters_are_two : Two letter_units
-letters_are_two = (refl, (refl, (refl, (refl, (refl, (refl, (refl, (refl, tt))))))))
+letters_are_two = search rules
 
 -- a text that does not end with a % ends with no single byte of it
 no_percent : (text : List ℕ) (k : ℕ) → ((front : List ℕ) → text ≡ front ++ codes "%" → ⊥) → bytes_eq (drop k text) (codes "%") ≡ false
@@ -83,12 +83,7 @@ named_letters (row ∷ rows) text l wide =
     ∙ named_letters rows text l.1 wide
 
 units_are_letters : Letters units
-units_are_letters = (omega arith, (omega arith, (omega arith, (omega arith, (omega arith, (omega arith, (omega arith, (omega arith, (omega arith, tt)))))))))
-
-any_default : (xs : List ℕ) (i d e : ℕ) → i < length xs → get_or xs i d ≡ get_or xs i e
-any_default [] i d e h = absurd (omega arith)
-any_default (x ∷ xs) zero d e h = refl
-any_default (x ∷ xs) (suc i) d e h = any_default xs i d e (omega arith)
+units_are_letters = search rules
 
 -- a text that can't be cut there has no name there
 pub no_name : (text : List ℕ) (at : ℕ) → at ≤ length text → (IsCharBoundary text at → ⊥) → named units (drop at text) ≡ None
@@ -96,7 +91,7 @@ no_name text at within apart =
     named_letters units (drop at text) units_are_letters (λ low. apart (within, λ inside wide. absurd (omega (arith, low_byte low inside))))
   where
     low_byte : get_or (drop at text) 0 128 < 128 → at < length text → get_or text at 0 < 128
-    low_byte low inside = subst (λ (b : ℕ). b < 128) (get_or-drop at text 0 128 ∙ ap (λ (i : ℕ). get_or text i 128) (add-zero at) ∙ any_default text at 128 0 inside) low
+    low_byte low inside = subst (λ (b : ℕ). b < 128) (get_or-drop at text 0 128 ∙ ap (λ (i : ℕ). get_or text i 128) (add-zero at) ∙ get_or_default text at 128 0 inside) low
 
 -- NO NUMBER ENDS WITH A NAME
 
@@ -120,11 +115,11 @@ spells_last (x ∷ y ∷ xs) [] b w h = and_right _ _ refl
 spells_last (x ∷ xs) (v ∷ ws) b w h = and_right _ _ (spells_last xs ws b w h)
 
 no_nan : (xs : List ℕ) (a b : ℕ) → eqb (to_ascii_lowercase a) 97 ≡ false → lowercases_to (xs ++ (a ∷ b ∷ [])) (110 ∷ 97 ∷ 110 ∷ []) ≡ false
-no_nan [] a b h = and_right (eqb (to_ascii_lowercase a) 110) _ (and_right (eqb (to_ascii_lowercase b) 97) _ refl)
-no_nan (x ∷ []) a b h = and_right (eqb (to_ascii_lowercase x) 110) _ (and_left _ _ h)
-no_nan (x ∷ y ∷ []) a b h = and_right (eqb (to_ascii_lowercase x) 110) _ (and_right (eqb (to_ascii_lowercase y) 97) _ (and_right (eqb (to_ascii_lowercase a) 110) _ refl))
-no_nan (x ∷ y ∷ z ∷ []) a b h = and_right (eqb (to_ascii_lowercase x) 110) _ (and_right (eqb (to_ascii_lowercase y) 97) _ (and_right (eqb (to_ascii_lowercase z) 110) _ refl))
-no_nan (x ∷ y ∷ z ∷ t ∷ xs) a b h = and_right (eqb (to_ascii_lowercase x) 110) _ (and_right (eqb (to_ascii_lowercase y) 97) _ (and_right (eqb (to_ascii_lowercase z) 110) _ refl))
+no_nan [] a b h = search (and_right, and_left)
+no_nan (x ∷ []) a b h = search (and_right, and_left)
+no_nan (x ∷ y ∷ []) a b h = search (and_right, and_left)
+no_nan (x ∷ y ∷ z ∷ []) a b h = search (and_right, and_left)
+no_nan (x ∷ y ∷ z ∷ t ∷ xs) a b h = search (and_right, and_left)
 
 -- past a sign, what ends a text still ends it
 signed_end : (xs end : List ℕ) → (eqb (get_or end 0 0) 43 || eqb (get_or end 0 0) 45) ≡ false → (ys : List ℕ) × (without_sign (xs ++ end) ≡ ys ++ end)
@@ -165,30 +160,6 @@ percent_ends_none xs =
     (or_from _ _ (spells_last ys (105 ∷ 110 ∷ []) 37 102 refl) (spells_last ys (105 ∷ 110 ∷ 102 ∷ 105 ∷ 110 ∷ 105 ∷ 116 ∷ []) 37 121 refl))
     (spells_last ys (110 ∷ 97 ∷ []) 37 110 refl)))
 
-px : LetterPair 112 120
-px = record { unsigned = refl; stop = λ s. refl; no_f = refl; no_y = refl; no_a = refl }
-
-em : LetterPair 101 109
-em = record { unsigned = refl; stop = λ s. refl; no_f = refl; no_y = refl; no_a = refl }
-
-ex : LetterPair 101 120
-ex = record { unsigned = refl; stop = λ s. refl; no_f = refl; no_y = refl; no_a = refl }
-
-inch : LetterPair 105 110
-inch = record { unsigned = refl; stop = λ s. refl; no_f = refl; no_y = refl; no_a = refl }
-
-cm : LetterPair 99 109
-cm = record { unsigned = refl; stop = λ s. refl; no_f = refl; no_y = refl; no_a = refl }
-
-mm : LetterPair 109 109
-mm = record { unsigned = refl; stop = λ s. refl; no_f = refl; no_y = refl; no_a = refl }
-
-pt : LetterPair 112 116
-pt = record { unsigned = refl; stop = λ s. refl; no_f = refl; no_y = refl; no_a = refl }
-
-pc : LetterPair 112 99
-pc = record { unsigned = refl; stop = λ s. refl; no_f = refl; no_y = refl; no_a = refl }
-
 -- A NUMBER WITH A NAME BEHIND IT
 
 last_byte : (xs ys : List ℕ) (b d : ℕ) → xs ++ (b ∷ []) ≡ ys ++ (d ∷ []) → b ≡ d
@@ -217,7 +188,7 @@ module _ (n : List ℕ) (number : a_number n ≡ true) where
       ∙ ap (λ (o : Option LengthUnit). found o n)
       (not_named units (drop k n) (
         λ e. no_percent_end (take k n) (sym (take-append-drop k n) ∙ ap (λ (l : List ℕ). take k n ++ l) e),
-        (no_letters_end k 112 120 px, (no_letters_end k 101 109 em, (no_letters_end k 101 120 ex, (no_letters_end k 105 110 inch, (no_letters_end k 99 109 cm, (no_letters_end k 109 109 mm, (no_letters_end k 112 116 pt, (no_letters_end k 112 99 pc, tt)))))))),
+        (no_letters_end k 112 120 (search rules), (no_letters_end k 101 109 (search rules), (no_letters_end k 101 120 (search rules), (no_letters_end k 105 110 (search rules), (no_letters_end k 99 109 (search rules), (no_letters_end k 109 109 (search rules), (no_letters_end k 112 116 (search rules), (no_letters_end k 112 99 (search rules), tt)))))))),
       ))
 
 pub parts_found : PartsFound

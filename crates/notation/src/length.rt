@@ -9,8 +9,7 @@ use geom::{Length, Unit};
 
 // What stands before the name of a unit at the text's end, and that unit.
 fn split_unit(text: &str) -> (&str, Unit)
-    ensures number { result.0.now ≡ (parts text.now).0 }
-    ensures unit { result.1 ≡ (parts text.now).1 }
+    ensures { (result.0.now, result.1) ≡ parts text.now }
 {
     if let Some(number) = text.strip_suffix('%') {
         return (number, Unit::Percent);
@@ -26,6 +25,7 @@ fn split_unit(text: &str) -> (&str, Unit)
 }
 
 /// The length that a text writes, if it writes one: a number with its unit right behind it, or a number alone.
+#[tactic(auto, unfolding(crate::specs::Lengths::a_length))]
 pub fn length_of(text: &str) -> Option<Length>
     ensures { MatchOption result (a_length text.now ≡ false) (λ l. WrittenLength text.now l) }
 {
@@ -35,8 +35,7 @@ pub fn length_of(text: &str) -> Option<Length>
 }
 
 /// A number's text with a unit's name behind it is read as that number and that unit, whichever they are.
-pub fn units_are_told_apart() -> u8
+#[tactic(auto, using(crate::proofs::Units::parts_found))]
+pub fn units_are_told_apart()
     ensures { PartsFound }
-{
-    0
-}
+{}

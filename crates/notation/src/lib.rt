@@ -3,10 +3,12 @@
 #![tactic(auto)]
 
 mod form;
-mod length;
-mod name;
-mod number;
 mod word;
+
+// Open, so that other crates can pass these functions on by name.
+pub mod length;
+pub mod name;
+pub mod number;
 
 pub use form::Form;
 pub use length::{length_of, units_are_told_apart};

@@ -1,5 +1,7 @@
 //! The names of units, directions, alignments, kinds, attributes and forms, by their exact letters.
 
+#![tactic(auto, using(crate::proofs::Naming::other_text))]
+
 ghost use Rattle.std.specs.Prelude.{◌≡◌};
 ghost use Rattle.notation.specs.Names.{named, units, directions, aligns, slices, kinds, attributes, forms};
 

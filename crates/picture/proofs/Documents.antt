@@ -1,50 +1,36 @@
 -- The nest of a document has the document's outline, and with it its picture, its groups and its marks.
-use Rattle.std.proofs.Common.{◌≡◌, ℕ, zero, suc, ◌+◌, Bool, true, false, cond, ◌&&◌, ◌↔◌, List, [], ◌∷◌, ◌++◌, map, length, sum_by, filter, sym, refl, ap, ◌∙◌, subst, inl, inr, append-nil, length-append}
+use Rattle.std.proofs.Common.{◌≡◌, ℕ, zero, suc, Bool, true, false, cond, ◌&&◌, ◌↔◌, List, [], ◌∷◌, ◌++◌, map, length, filter, sym, refl, ap, ◌∙◌, subst, inl, inr, append-nil, sum_by}
 use mathlib.Core.List.{map-map}
 use Rattle.std.specs.List.{flat_map}
 use Rattle.std.proofs.lemmas.List.{length-map}
-use Rattle.std.proofs.lemmas.List.Sums.{sum_by-cons}
-use Rattle.std.proofs.lemmas.Bool.{cases_Bool, cond-true, cond-false, and_from, and_left, and_right}
+use Rattle.std.proofs.lemmas.Bool.{cases_Bool}
+use Rattle.std.proofs.lemmas.List.Concat.{length-flat_map}
 use Rattle.picture.specs.Script.{Event, Script, Balanced, groups_opened, marks_made}
 use Rattle.picture.specs.Script.Event.{opened, marked, closed}
-use Rattle.picture.specs.Picture.{front, seen_under, picture}
-use Rattle.picture.specs.Outline.{Start, starts, outline, mark_under}
+use Rattle.picture.specs.Picture.{front, picture}
+use Rattle.picture.specs.Outline.{Start, starts, outline}
 use Rattle.picture.specs.Feeding.{fed, seen_behind, outline_behind}
 use Rattle.picture.specs.Nodes.{Nodes, children, climb, above, order, Tree}
 use Rattle.picture.specs.Rules.{Rules, leaf_at, drawn_at, groups_at, inside_at, mark_at, BareLeaves, nest}
-use Rattle.picture.specs.Document.{every, chain_along, state_of, chain_of, shown, shown_leaf, seen_at, starts_at, document_picture, document_outline, NestHasTheDocumentPicture, FedNestHasTheDocumentPicture, NestIsToldByTheDocumentOutline, FedNestIsToldByTheDocumentOutline, NestOpensAndMarksWhatIsShown, NestCounts}
-use Rattle.picture.proofs.Lists.{joined_same, joined_by, joined_joined, kept_joined}
+use Rattle.picture.specs.Document.{every, chain_along, state_of, shown, shown_leaf, seen_at, starts_at, document_picture, document_outline, NestHasTheDocumentPicture, FedNestHasTheDocumentPicture, FedNestIsToldByTheDocumentOutline}
+use Rattle.picture.proofs.Lists.{joined_same, joined_joined, kept_joined}
 use Rattle.picture.proofs.Scripts.{groups_append, groups_opens}
 use Rattle.picture.proofs.Pictures.{seen_opens, picture_has_each_mark_once}
-use Rattle.picture.proofs.Outlines.{starts_opens, starts_within, starts_joined, seen_in_starts, outline_tells_the_script, picture_is_in_the_outline}
+use Rattle.picture.proofs.Outlines.{starts_opens, starts_within, starts_joined, seen_in_starts, picture_is_in_the_outline, mark_seen}
 use Rattle.picture.proofs.Feeding.{feeding_keeps_the_picture, fed_is_told_by_its_outline}
 use Rattle.picture.proofs.Paths.{Child, children_are, chain_own, state_child, chain_child, drawn_child, shown_from, not_shown}
-use Rattle.picture.proofs.Nests.{content, nest_drawn, nest_not_drawn, balanced_content, balanced_nest, leaf_alone, none_kept}
+use Rattle.picture.proofs.Nests.{content, balanced_content, balanced_nest, leaf_alone, none_kept}
 
 -- what is kept of what was kept, one by one
 pub joined_kept : {X A : Type 0} (p q : X → Bool) (f : X → A) (xs : List X) → flat_map (λ x. cond (p x) (f x ∷ []) []) (filter q xs) ≡ map f (filter (λ x. p x && q x) xs)
 joined_kept p q f [] = refl
-joined_kept p q f (x ∷ xs) = elim (cases_Bool (q x)) [
-  | inr e ↦
-      ap (flat_map (λ x. cond (p x) (f x ∷ []) [])) (cond-false (q x) _ _ e)
-      ∙ joined_kept p q f xs
-      ∙ sym (ap (map f) (cond-false (p x && q x) _ _ (and_right (p x) (q x) e)))
-  | inl e ↦
-      ap (flat_map (λ x. cond (p x) (f x ∷ []) [])) (cond-true (q x) _ _ e)
-      ∙ ap (λ (ys : List _). cond (p x) (f x ∷ []) [] ++ ys) (joined_kept p q f xs)
-      ∙ (elim (cases_Bool (p x)) [
-        | inl g ↦
-            ap (λ (ys : List _). ys ++ map f (filter (λ x. p x && q x) xs)) (cond-true (p x) _ _ g)
-            ∙ sym (ap (map f) (cond-true (p x && q x) _ _ (and_from _ _ g e)))
-        | inr g ↦
-            ap (λ (ys : List _). ys ++ map f (filter (λ x. p x && q x) xs)) (cond-false (p x) _ _ g)
-            ∙ sym (ap (map f) (cond-false (p x && q x) _ _ (and_left (p x) (q x) g)))
-      ])
-]
-
-pub length_joined : {X A : Type 0} (f : X → List A) (xs : List X) → length (flat_map f xs) ≡ sum_by (λ x. length (f x)) xs
-length_joined f [] = refl
-length_joined f (x ∷ xs) = length-append (f x) (flat_map f xs) ∙ ap (λ (n : ℕ). length (f x) + n) (length_joined f xs) ∙ sym (sum_by-cons (λ y. length (f y)) x xs)
+joined_kept {X} {A} p q f (x ∷ xs) = step (p x) (q x) refl (filter q xs) (filter (λ y. p y && q y) xs) (joined_kept p q f xs)
+  where
+    step : (a b : Bool) → cond (p x) (f x ∷ []) [] ≡ cond a (f x ∷ []) [] → (ys zs : List X) → flat_map (λ y. cond (p y) (f y ∷ []) []) ys ≡ map f zs → flat_map (λ y. cond (p y) (f y ∷ []) []) (cond b (x ∷ ys) ys) ≡ map f (cond (a && b) (x ∷ zs) zs)
+    step true true h ys zs e = λ i. h i ++ e i
+    step false true h ys zs e = λ i. h i ++ e i
+    step true false h ys zs e = e
+    step false false h ys zs e = e
 
 -- the groups that a script opens, read from its outline
 abbrev group_started : {Group Mark : Type 0} → Event Group Mark → List Group
@@ -78,12 +64,7 @@ module _ {Item State Group Mark : Type 0} (R : Rules Item State Group Mark) (d :
 
     starts_leaf : leaf_at R d n ≡ true → starts os (map opened gs) ++ starts (os ++ gs) (content R d l n u) ≡ below (suc l) n
     unfolding order
-    starts_leaf f =
-        let M : Script Group Mark = marked (mark_at R d n u) ∷ [] in
-        ap (λ (x : Script Group Mark). starts os (map opened gs) ++ starts (os ++ gs) x) (cond-true (leaf_at R d n) _ _ f)
-        ∙ sym (ap (λ (x : Script Group Mark). starts os (map opened gs ++ x)) (cond-true (leaf_at R d n) M [] f) ∙ starts_opens os gs M)
-        ∙ sym (append-nil (starts_at R d s₀ n))
-        ∙ sym (ap (flat_map (starts_at R d s₀)) (cond-true (shown R d n) _ _ sh ∙ ap (λ (ks : List ℕ). n ∷ filter (shown R d) (flat_map (λ k. order d l k) ks)) (leaf_alone R d bare n f)))
+    starts_leaf f = simp (f, sh, leaf_alone R d bare n f, starts_opens, append-nil)
 
     starts_child : ((k : ℕ) → every (drawn_at R d) (above d k) ≡ true → At l k) → (k : ℕ) → Child d n k → starts (os ++ gs) (nest R d l k (inside_at R d n u)) ≡ below l k
     starts_child ih k c =
@@ -95,29 +76,18 @@ module _ {Item State Group Mark : Type 0} (R : Rules Item State Group Mark) (d :
     unfolding order
     starts_children f ih =
         let v : State = inside_at R d n u in
-        let here : starts_at R d s₀ n ≡ starts os (map opened gs) =
-        ap (λ (x : Script Group Mark). starts os (map opened gs ++ x)) (cond-false (leaf_at R d n) _ _ f) ∙ ap (starts os) (append-nil (map opened gs)) in
-        ap (λ (x : Script Group Mark). starts os (map opened gs) ++ starts (os ++ gs) x) (cond-false (leaf_at R d n) _ _ f)
-        ∙ ap (λ (x : List (Start Group Mark)). starts os (map opened gs) ++ x)
-        (starts_joined (λ k. nest R d l k v) (λ k. balanced_nest R d l k v) (os ++ gs) (children d n)
-        ∙ joined_same (Child d n) (λ k. starts (os ++ gs) (nest R d l k v)) (λ k. below l k) (children d n) (children_are d n) (starts_child ih)
-        ∙ sym (joined_joined (starts_at R d s₀) (λ k. filter (shown R d) (order d l k)) (children d n))
-        ∙ ap (flat_map (starts_at R d s₀)) (sym (kept_joined (shown R d) (λ k. order d l k) (children d n))))
-        ∙ ap (λ (x : List (Start Group Mark)). x ++ flat_map (starts_at R d s₀) (filter (shown R d) (flat_map (λ k. order d l k) (children d n)))) (sym here)
-        ∙ sym (ap (flat_map (starts_at R d s₀)) (cond-true (shown R d n) _ _ sh))
+        simp (f, sh, append-nil, starts_joined (λ k. nest R d l k v) (λ k. balanced_nest R d l k v), joined_joined, kept_joined)
+        (λ i. starts os (map opened gs) ++ joined_same (Child d n) (λ k. starts (os ++ gs) (nest R d l k v)) (λ k. below l k) (children d n) (children_are d n) (starts_child ih) i)
 
   -- the outline of the nest of a node, all above which are drawn
   outlined_at : (l n : ℕ) → every (drawn_at R d) (above d n) ≡ true → At l n
   unfolding nest order
   outlined_at zero n h = refl
   outlined_at (suc l) n h = elim (cases_Bool (drawn_at R d n)) [
-    | inr e ↦
-        ap (starts (chain_along R d (above d n) s₀)) (nest_not_drawn R d l n (state_of R d s₀ n) e)
-        ∙ sym (ap (flat_map (starts_at R d s₀)) (none_kept R d L tree (shown R d) (λ k x. x) (suc l) n (not_shown R d n (inr e))))
+    | inr e ↦ simp (e, none_kept R d L tree (shown R d) (λ k x. x) (suc l) n (not_shown R d n (inr e)))
     | inl e ↦
-        ap (starts (chain_along R d (above d n) s₀)) (nest_drawn R d l n (state_of R d s₀ n) e)
-        ∙ starts_within (balanced_content R d l n (state_of R d s₀ n) (balanced_nest R d l)) (chain_along R d (above d n) s₀) (groups_at R d n (state_of R d s₀ n))
-        ∙ (elim (cases_Bool (leaf_at R d n)) [
+        simp (e, starts_within (balanced_content R d l n (state_of R d s₀ n) (balanced_nest R d l)))
+        (elim (cases_Bool (leaf_at R d n)) [
           | inl f ↦ starts_leaf l n (shown_from R d n h e) f
           | inr f ↦ starts_children l n (shown_from R d n h e) f (λ k g. outlined_at l k g)
         ])
@@ -128,40 +98,26 @@ module _ {Item State Group Mark : Type 0} (R : Rules Item State Group Mark) (d :
   nest_outline = outlined_at L 0 refl
 
   -- the mark of a leaf among what starts at it, and its groups
-  mark_started : (n : ℕ) → flat_map (λ x. mark_under x.event x.chain) (starts_at R d s₀ n) ≡ cond (leaf_at R d n) (seen_at R d s₀ n ∷ []) []
-  mark_started n =
-      let gs : List Group = groups_at R d n (state_of R d s₀ n) in
-      let os : List Group = chain_along R d (above d n) s₀ in
-      let M : Script Group Mark = marked (mark_at R d n (state_of R d s₀ n)) ∷ [] in
-      sym (seen_in_starts os (map opened gs ++ cond (leaf_at R d n) M []))
-      ∙ seen_opens os gs (cond (leaf_at R d n) M [])
-      ∙ ap (λ (x : List Group). seen_under x (cond (leaf_at R d n) M [])) (sym (chain_own R d s₀ n))
-      ∙ (elim (cases_Bool (leaf_at R d n)) [
-        | inl e ↦ ap (seen_under (chain_of R d s₀ n)) (cond-true (leaf_at R d n) M [] e) ∙ sym (cond-true (leaf_at R d n) _ _ e)
-        | inr e ↦ ap (seen_under (chain_of R d s₀ n)) (cond-false (leaf_at R d n) M [] e) ∙ sym (cond-false (leaf_at R d n) _ _ e)
-      ])
+  mark_started : (n : ℕ) → flat_map mark_seen (starts_at R d s₀ n) ≡ cond (leaf_at R d n) (seen_at R d s₀ n ∷ []) []
+  mark_started n = elim (cases_Bool (leaf_at R d n)) [
+    | inl e ↦ simp (← (seen_in_starts {Group = Group} {Mark = Mark}), seen_opens, chain_own, e)
+    | inr e ↦ simp (← (seen_in_starts {Group = Group} {Mark = Mark}), seen_opens, chain_own, e)
+  ]
 
   groups_started : (n : ℕ) → flat_map (λ x. group_started x.event) (starts_at R d s₀ n) ≡ groups_at R d n (state_of R d s₀ n)
-  groups_started n =
-      let gs : List Group = groups_at R d n (state_of R d s₀ n) in
-      let M : Script Group Mark = marked (mark_at R d n (state_of R d s₀ n)) ∷ [] in
-      let none : groups_opened (cond (leaf_at R d n) M []) ≡ [] = elim (cases_Bool (leaf_at R d n)) [
-        | inl e ↦ ap groups_opened (cond-true (leaf_at R d n) M [] e)
-        | inr e ↦ ap groups_opened (cond-false (leaf_at R d n) M [] e)
-      ] in
-      sym (groups_in_starts (chain_along R d (above d n) s₀) (map opened gs ++ cond (leaf_at R d n) M []))
-      ∙ groups_append (map opened gs) (cond (leaf_at R d n) M [])
-      ∙ (λ i. groups_opens Mark gs i ++ none i)
-      ∙ append-nil gs
+  groups_started n = elim (cases_Bool (leaf_at R d n)) [
+    | inl e ↦ simp (← (groups_in_starts {Group = Group} {Mark = Mark}), groups_append, groups_opens, append-nil, e)
+    | inr e ↦ simp (← (groups_in_starts {Group = Group} {Mark = Mark}), groups_opens, append-nil, e)
+  ]
 
   pub nest_picture : picture (nest R d L 0 s₀) ≡ document_picture R d L s₀
   unfolding document_outline document_picture
   nest_picture =
       let kept : List ℕ = filter (shown R d) (order d L 0) in
       picture_is_in_the_outline (nest R d L 0 s₀)
-      ∙ ap (flat_map (λ x. mark_under x.event x.chain)) nest_outline
-      ∙ joined_joined (λ x. mark_under x.event x.chain) (starts_at R d s₀) kept
-      ∙ joined_by (λ n. flat_map (λ x. mark_under x.event x.chain) (starts_at R d s₀ n)) (λ n. cond (leaf_at R d n) (seen_at R d s₀ n ∷ []) []) kept mark_started
+      ∙ ap (flat_map mark_seen) nest_outline
+      ∙ joined_joined mark_seen (starts_at R d s₀) kept
+      ∙ (λ i. flat_map (λ n. mark_started n i) kept)
       ∙ joined_kept (leaf_at R d) (shown R d) (seen_at R d s₀) (order d L 0)
 
   pub nest_groups : groups_opened (nest R d L 0 s₀) ≡ flat_map (λ n. groups_at R d n (state_of R d s₀ n)) (filter (shown R d) (order d L 0))
@@ -171,7 +127,7 @@ module _ {Item State Group Mark : Type 0} (R : Rules Item State Group Mark) (d :
       groups_in_starts [] (nest R d L 0 s₀)
       ∙ ap (flat_map (λ x. group_started x.event)) nest_outline
       ∙ joined_joined (λ x. group_started x.event) (starts_at R d s₀) kept
-      ∙ joined_by (λ n. flat_map (λ x. group_started x.event) (starts_at R d s₀ n)) (λ n. groups_at R d n (state_of R d s₀ n)) kept groups_started
+      ∙ (λ i. flat_map (λ n. groups_started n i) kept)
 
   pub nest_marks : marks_made (nest R d L 0 s₀) ≡ map (λ n. mark_at R d n (state_of R d s₀ n)) (filter (shown_leaf R d) (order d L 0))
   unfolding document_picture
@@ -180,24 +136,15 @@ module _ {Item State Group Mark : Type 0} (R : Rules Item State Group Mark) (d :
       ∙ ap (map (λ p. p.mark)) nest_picture
       ∙ map-map (λ p. p.mark) (seen_at R d s₀) (filter (shown_leaf R d) (order d L 0))
 
+  pub count_groups : length (groups_opened (nest R d L 0 s₀)) ≡ sum_by (λ n. length (groups_at R d n (state_of R d s₀ n))) (filter (shown R d) (order d L 0))
+  count_groups = ap length nest_groups ∙ length-flat_map (λ n. groups_at R d n (state_of R d s₀ n)) (filter (shown R d) (order d L 0))
+
+  pub count_marks : length (marks_made (nest R d L 0 s₀)) ≡ length (filter (shown_leaf R d) (order d L 0))
+  count_marks = ap length nest_marks ∙ length-map (filter (shown_leaf R d) (order d L 0)) (λ n. mark_at R d n (state_of R d s₀ n))
+
 module _ {Item State Group Mark : Type 0} where
   pub nest_has_the_document_picture : NestHasTheDocumentPicture Item State Group Mark
   nest_has_the_document_picture R d l s t b = nest_picture R d l t b s
-
-  pub nest_is_told_by_the_document_outline : NestIsToldByTheDocumentOutline Item State Group Mark
-  nest_is_told_by_the_document_outline R d l s t b x = (
-    (λ p. outline_tells_the_script x (nest R d l 0 s) p.0 (balanced_nest R d l 0 s) (p.1 ∙ sym (nest_outline R d l t b s))),
-    λ e. (subst Balanced (sym e) (balanced_nest R d l 0 s), ap outline e ∙ nest_outline R d l t b s),
-  )
-
-  pub nest_opens_and_marks_what_is_shown : NestOpensAndMarksWhatIsShown Item State Group Mark
-  nest_opens_and_marks_what_is_shown R d l s t b = (nest_groups R d l t b s, nest_marks R d l t b s)
-
-  pub nest_counts : NestCounts Item State Group Mark
-  nest_counts R d l s t b = (
-    ap length (nest_groups R d l t b s) ∙ length_joined (λ n. groups_at R d n (state_of R d s n)) (filter (shown R d) (order d l 0)),
-    ap length (nest_marks R d l t b s) ∙ length-map (filter (shown_leaf R d) (order d l 0)) (λ n. mark_at R d n (state_of R d s n)),
-  )
 
 module _ {Item State Group Mark Other Sign : Type 0} where
   pub fed_nest_has_the_document_picture : FedNestHasTheDocumentPicture Item State Group Mark Other Sign

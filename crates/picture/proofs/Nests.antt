@@ -1,5 +1,5 @@
 -- The nest of a node: step by step, and balanced.
-use Rattle.std.proofs.Common.{◌≡◌, ℕ, zero, suc, Bool, true, false, cond, List, [], ◌∷◌, filter, sym, refl, ap, ◌∙◌, subst, inl, inr}
+use Rattle.std.proofs.Common.{◌≡◌, ℕ, zero, suc, Bool, true, false, cond, List, [], ◌∷◌, filter, sym, refl, ap, ◌∙◌, inl, inr}
 use Rattle.std.specs.List.{flat_map, AllByRecursion}
 use Rattle.std.proofs.lemmas.Bool.{cases_Bool, cond-true, cond-false, both_ways}
 use Rattle.picture.specs.Script.{Script, within, Balanced}
@@ -21,22 +21,18 @@ module _ {Item State Group Mark : Type 0} (R : Rules Item State Group Mark) (d :
   unfolding nest
   nest_drawn l n s e = cond-true (drawn_at R d n) _ _ e
 
-  pub nest_not_drawn : (l n : ℕ) (s : State) → drawn_at R d n ≡ false → nest R d (suc l) n s ≡ []
-  unfolding nest
-  nest_not_drawn l n s e = cond-false (drawn_at R d n) _ _ e
-
   pub balanced_content : (l n : ℕ) (s : State) → ((k : ℕ) (u : State) → Balanced (nest R d l k u)) → Balanced (content l n s)
   balanced_content l n s h = elim (cases_Bool (leaf_at R d n)) [
-    | inl e ↦ subst Balanced (sym (cond-true (leaf_at R d n) _ _ e)) (one_mark (mark_at R d n s))
-    | inr e ↦ subst Balanced (sym (cond-false (leaf_at R d n) _ _ e)) (balanced_joined (λ k. nest R d l k (inside_at R d n s)) (λ k. h k (inside_at R d n s)) (children d n))
+    | inl e ↦ simp e (one_mark (mark_at R d n s))
+    | inr e ↦ simp e (balanced_joined (λ k. nest R d l k (inside_at R d n s)) (λ k. h k (inside_at R d n s)) (children d n))
   ]
 
   pub balanced_nest : (l n : ℕ) (s : State) → Balanced (nest R d l n s)
   unfolding nest
   balanced_nest zero n s = nothing
   balanced_nest (suc l) n s = elim (cases_Bool (drawn_at R d n)) [
-    | inl e ↦ subst Balanced (sym (nest_drawn l n s e)) (balanced_within (groups_at R d n s) (balanced_content l n s (λ k u. balanced_nest l k u)))
-    | inr e ↦ subst Balanced (sym (nest_not_drawn l n s e)) nothing
+    | inl e ↦ simp e (balanced_within (groups_at R d n s) (balanced_content l n s (λ k u. balanced_nest l k u)))
+    | inr e ↦ simp e nothing
   ]
 
   -- a leaf has no children

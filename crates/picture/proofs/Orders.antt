@@ -1,21 +1,22 @@
 -- Document order has each node once; and how long a nest can be.
-use Rattle.std.proofs.Common.{◌≡◌, ℕ, zero, suc, ◌+◌, ◌*◌, ◌<◌, ◌≤◌, Bool, true, false, cond, not, eqb, List, [], ◌∷◌, ◌++◌, map, length, replicate, filter, sym, refl, ap, ◌∙◌, subst, inl, inr, mul-one, mul-add, arith, length-append}
-use lib.ListN.{length-replicate}
+use Rattle.std.proofs.Common.{◌≡◌, ℕ, zero, suc, ◌+◌, ◌*◌, ◌<◌, ◌≤◌, Bool, true, false, cond, not, eqb, List, [], ◌∷◌, map, length, filter, sym, refl, ap, ◌∙◌, subst, inl, inr, mul-add, arith, length-append, mul-suc}
 use Rattle.std.specs.List.{flat_map, AllByRecursion}
-use Rattle.std.proofs.lemmas.List.{length-map}
 use Rattle.std.proofs.lemmas.List.Filters.{length-filter_both}
-use Rattle.std.proofs.lemmas.Bool.{cases_Bool, cases_eq, cond-true, cond-false, eq-eqb, ne_eqb, not_from_true, not_from_false}
-use Rattle.picture.specs.Script.{Event, Script, within, groups_opened}
-use Rattle.picture.specs.Script.Event.{opened, closed}
+use Rattle.std.proofs.lemmas.Bool.{cases_Bool, cases_eq, cond-true, eq-eqb, ne_eqb}
+use Rattle.std.proofs.lemmas.List.Concat.{flat_map_single}
+use Rattle.std.proofs.lemmas.List.{map-id}
+use mathlib.Core.List.{map-map}
+use Rattle.picture.specs.Script.{groups_opened}
 use Rattle.picture.specs.Nodes.{Nodes, children, path, order, Tree, OrderHasEachNodeOnce}
 use Rattle.picture.specs.Rules.{Rules, leaf_at, drawn_at, groups_at, inside_at, BareLeaves, nest, NestLengthIsBounded}
 use Rattle.picture.specs.Document.{every, shown}
-use Rattle.picture.specs.Brackets.{Owned, owned_by, owning}
+use Rattle.picture.specs.Brackets.{owning}
 use Rattle.picture.proofs.Lists.{kept_map, all_joined}
 use Rattle.picture.proofs.Paths.{Child, children_are}
-use Rattle.picture.proofs.Nests.{content, nest_drawn, nest_not_drawn}
+use Rattle.picture.proofs.Nests.{content}
 use Rattle.picture.proofs.Documents.{nest_groups}
 use Rattle.picture.proofs.Stretches.{bracketed}
+use Rattle.picture.proofs.Scripts.{length_within}
 
 -- LISTS OF NUMBERS IN WHICH EACH STANDS ONCE
 
@@ -27,21 +28,16 @@ others n xs = filter (λ m. not (eqb m n)) xs
 others_below : (n : ℕ) (xs : List ℕ) → AllByRecursion (λ m. m < suc n) xs → AllByRecursion (λ m. m < n) (others n xs)
 others_below n [] a = tt
 others_below n (x ∷ xs) a = elim (cases_eq x n) [
-  | inl e ↦ subst (AllByRecursion (λ m. m < n)) (sym (cond-false (not (eqb x n)) _ _ (not_from_true (eqb x n) (eq-eqb x n e)))) (others_below n xs a.1)
-  | inr e ↦ subst (AllByRecursion (λ m. m < n)) (sym (cond-true (not (eqb x n)) _ _ (not_from_false (eqb x n) (ne_eqb x n e)))) (omega (arith, a.0), others_below n xs a.1)
+  | inl e ↦ simp (eq-eqb x n e) (others_below n xs a.1)
+  | inr e ↦ simp (ne_eqb x n e) (omega (arith, a.0), others_below n xs a.1)
 ]
 
 -- another number is kept where n is left out
 kept_others : (n k : ℕ) → (k ≡ n → ⊥) → (xs : List ℕ) → filter (λ m. eqb m k) (others n xs) ≡ filter (λ m. eqb m k) xs
 kept_others n k ne [] = refl
 kept_others n k ne (x ∷ xs) = elim (cases_eq x n) [
-  | inl e ↦
-      ap (filter (λ m. eqb m k)) (cond-false (not (eqb x n)) _ _ (not_from_true (eqb x n) (eq-eqb x n e)))
-      ∙ kept_others n k ne xs
-      ∙ sym (cond-false (eqb x k) _ _ (ne_eqb x k (λ z. ne (sym z ∙ e))))
-  | inr e ↦
-      ap (filter (λ m. eqb m k)) (cond-true (not (eqb x n)) _ _ (not_from_false (eqb x n) (ne_eqb x n e)))
-      ∙ ap (λ (ys : List ℕ). cond (eqb x k) (x ∷ ys) ys) (kept_others n k ne xs)
+  | inl e ↦ simp (eq-eqb x n e, ne_eqb x k (λ z. ne (sym z ∙ e)), kept_others n k ne xs)
+  | inr e ↦ simp (ne_eqb x n e, kept_others n k ne xs)
 ]
 
 once_length : (n : ℕ) (xs : List ℕ) → AllByRecursion (λ m. m < n) xs → ((k : ℕ) → k < n → filter (λ m. eqb m k) xs ≡ k ∷ []) → length xs ≡ n
@@ -76,15 +72,10 @@ module _ {Item : Type 0} (d : Nodes Item) (L : ℕ) (tree : Tree d L) where
   abbrev nodes : List ℕ
   nodes = map (λ g. g.node) (groups_opened (nest (owning plain) d L 0 tt))
 
-  nodes_one_by_one : (xs : List ℕ) → map (λ (g : Owned (Unit {0})). g.node) (flat_map (λ n. owned_by n 0 (tt ∷ [])) xs) ≡ xs
-  nodes_one_by_one [] = refl
-  nodes_one_by_one (x ∷ xs) = ap (λ (ys : List ℕ). x ∷ ys) (nodes_one_by_one xs)
-
   nodes_order : nodes ≡ order d L 0
   nodes_order =
       ap (map (λ g. g.node)) (nest_groups (owning plain) d L tree plain_bare tt)
-      ∙ nodes_one_by_one (filter (shown (owning plain) d) (order d L 0))
-      ∙ kept_all (shown (owning plain) d) (λ n. all_drawn (path d n)) (order d L 0)
+      ∙ simp (flat_map_single, map-map, map-id) (kept_all (shown (owning plain) d) (λ n. all_drawn (path d n)) (order d L 0))
 
   order_below : (l n : ℕ) → n < d.count → AllByRecursion (λ m. m < d.count) (order d l n)
   unfolding order
@@ -108,51 +99,24 @@ order_has_each_node_once d l t = (order_below d l t l 0 t.root, order_once d l t
 length_joined_le : {X A B : Type 0} (b : ℕ) (P : X → Type 0) (f : X → List A) (g : X → List B) → ((x : X) → P x → length (f x) ≤ b * length (g x)) → (xs : List X) → AllByRecursion P xs → length (flat_map f xs) ≤ b * length (flat_map g xs)
 length_joined_le b P f g h [] a = omega arith
 length_joined_le b P f g h (x ∷ xs) a =
-    let p : length (f x) ≤ b * length (g x) = h x a.0 in
-    let q : length (flat_map f xs) ≤ b * length (flat_map g xs) = length_joined_le b P f g h xs a.1 in
-    let l : length (f x ++ flat_map f xs) ≡ length (f x) + length (flat_map f xs) = length-append (f x) (flat_map f xs) in
-    let r : b * length (g x ++ flat_map g xs) ≡ b * length (g x) + b * length (flat_map g xs) = ap (λ (n : ℕ). b * n) (length-append (g x) (flat_map g xs)) ∙ mul-add b (length (g x)) (length (flat_map g xs)) in
-    omega arith
-
-length_within : {Group Mark : Type 0} (gs : List Group) (s : Script Group Mark) → length (within gs s) ≡ 2 * length gs + length s
-length_within {Group} {Mark} gs s =
-    let O : Script Group Mark = map opened gs in
-    let C : Script Group Mark = replicate (length gs) closed in
-    let o : length (map {B = Event Group Mark} opened gs) ≡ length gs = length-map gs opened in
-    let c : length (replicate {A = Event Group Mark} (length gs) closed) ≡ length gs = length-replicate (length gs) closed in
-    let a : length (within gs s) ≡ length (O ++ s) + length C = length-append (O ++ s) C in
-    let b : length (O ++ s) ≡ length O + length s = length-append O s in
-    omega arith
+    simp (length-append, mul-add) (omega (arith, h x a.0, length_joined_le b P f g h xs a.1))
 
 module _ {Item State Group Mark : Type 0} (R : Rules Item State Group Mark) (d : Nodes Item) (b : ℕ) (few : (n : ℕ) (s : State) → n < d.count → 2 * length (groups_at R d n s) + cond (leaf_at R d n) 1 0 ≤ b) where
   length_content : (l n : ℕ) (s : State) → n < d.count → ((k : ℕ) (u : State) → k < d.count → length (nest R d l k u) ≤ b * length (order d l k)) → length (content R d l n s) ≤ cond (leaf_at R d n) 1 0 + b * length (flat_map (λ k. order d l k) (children d n))
   length_content l n s h ih = elim (cases_Bool (leaf_at R d n)) [
-    | inl e ↦
-        let c : length (content R d l n s) ≡ 1 = ap length (cond-true (leaf_at R d n) _ _ e) in
-        let o : ◌≡◌ {A = ℕ} (cond (leaf_at R d n) 1 0) 1 = cond-true (leaf_at R d n) 1 0 e in
-        omega arith
+    | inl e ↦ simp e (omega arith)
     | inr e ↦
         let u : State = inside_at R d n s in
-        let c : length (content R d l n s) ≡ length (flat_map (λ k. nest R d l k u) (children d n)) = ap length (cond-false (leaf_at R d n) _ _ e) in
-        let q : length (flat_map (λ k. nest R d l k u) (children d n)) ≤ b * length (flat_map (λ k. order d l k) (children d n)) =
-        length_joined_le b (Child d n) (λ k. nest R d l k u) (λ k. order d l k) (λ k x. ih k u x.high) (children d n) (children_are d n) in
-        omega arith
+        simp e (omega (arith, length_joined_le b (Child d n) (λ k. nest R d l k u) (λ k. order d l k) (λ k x. ih k u x.high) (children d n) (children_are d n)))
   ]
 
   pub length_nest : (l n : ℕ) (s : State) → n < d.count → length (nest R d l n s) ≤ b * length (order d l n)
   unfolding nest order
   length_nest zero n s h = omega arith
   length_nest (suc l) n s h =
-      let m : b * (1 + length (flat_map (λ k. order d l k) (children d n))) ≡ b * 1 + b * length (flat_map (λ k. order d l k) (children d n)) = mul-add b 1 (length (flat_map (λ k. order d l k) (children d n))) in
-      let m' : b * suc (length (flat_map (λ k. order d l k) (children d n))) ≡ b * (1 + length (flat_map (λ k. order d l k) (children d n))) = ap (λ (n : ℕ). b * n) (omega arith) in
-      let one : b * 1 ≡ b = mul-one b in
-      let w : 2 * length (groups_at R d n s) + cond (leaf_at R d n) 1 0 ≤ b = few n s h in
       elim (cases_Bool (drawn_at R d n)) [
-        | inr e ↦ let z : length (nest R d (suc l) n s) ≡ 0 = ap length (nest_not_drawn R d l n s e) in omega arith
-        | inl e ↦
-            let z : length (nest R d (suc l) n s) ≡ 2 * length (groups_at R d n s) + length (content R d l n s) = ap length (nest_drawn R d l n s e) ∙ length_within (groups_at R d n s) (content R d l n s) in
-            let y : length (content R d l n s) ≤ cond (leaf_at R d n) 1 0 + b * length (flat_map (λ k. order d l k) (children d n)) = length_content l n s h (λ k u g. length_nest l k u g) in
-            omega arith
+        | inr e ↦ simp e (omega arith)
+        | inl e ↦ simp (e, length_within, mul-suc) (omega (arith, few n s h, length_content l n s h (λ k u g. length_nest l k u g)))
       ]
 
 pub nest_length_is_bounded : {Item State Group Mark : Type 0} → NestLengthIsBounded Item State Group Mark

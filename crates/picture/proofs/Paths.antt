@@ -1,10 +1,13 @@
 -- Children, and what is above them; states, chains and drawing along paths.
-use Rattle.std.proofs.Common.{◌≡◌, ℕ, zero, suc, ◌+◌, ◌-◌, ◌<◌, ◌≤◌, Bool, true, false, cond, ◌&&◌, eqb, ◌⊎◌, List, [], ◌∷◌, ◌++◌, filter, sym, refl, ap, ◌∙◌, inl, inr, append_assoc, append-nil, arith}
-use Rattle.std.specs.List.{range_with_len, AllByRecursion}
-use Rattle.std.proofs.lemmas.Bool.{cases_eq, cases_Bool, cases_lt, eqb-true, ne_eqb, eq-eqb, cond-true, cond-false, and_from, and_left, and_right, and_parts}
+use Rattle.std.proofs.Common.{◌≡◌, ℕ, zero, suc, ◌-◌, ◌<◌, ◌≤◌, true, false, cond, eqb, ◌⊎◌, List, [], ◌∷◌, ◌++◌, sym, refl, ap, ◌∙◌, inl, inr, append_assoc, append-nil, arith, subst}
+use Rattle.std.specs.List.{AllByRecursion}
+use Rattle.std.proofs.lemmas.Bool.{cases_eq, eqb-true, ne_eqb, eq-eqb, cond-true, cond-false, and_from, and_left, and_right, and_parts}
+use Rattle.std.proofs.lemmas.List.Folds.{list_all-append}
+use Rattle.std.proofs.lemmas.List.Sums.{fold-append}
 use Rattle.picture.specs.Nodes.{Nodes, children, climb, above, path, Tree}
 use Rattle.picture.specs.Rules.{Rules, drawn_at, groups_at, inside_at}
 use Rattle.picture.specs.Document.{every, state_along, chain_along, state_of, chain_of, shown}
+use Rattle.picture.proofs.Lists.{all_counted}
 
 module _ {Item : Type 0} (d : Nodes Item) where
   -- k is a child of n
@@ -13,19 +16,12 @@ module _ {Item : Type 0} (d : Nodes Item) where
     pub high : k < d.count
     pub parent : d.parent k ≡ n
 
-  childs : (n a m : ℕ) → 0 < a → (m ≡ 0) ⊎ (a + m ≤ d.count) → AllByRecursion (Child n) (filter (λ k. eqb (d.parent k) n) (range_with_len a m))
-  childs n a zero h l = tt
-  childs n a (suc m) h (inl l) = absurd (omega arith)
-  childs n a (suc m) h (inr l) =
-      let rest : AllByRecursion (Child n) (filter (λ k. eqb (d.parent k) n) (range_with_len (a + 1) m)) = childs n (a + 1) m (omega arith) (inr (omega arith)) in
-      let b : Bool = eqb (d.parent a) n in
-      elim (cases_Bool b) [
-        | inl e ↦ rw (cond-true b _ _ e) (record { low = h; high = omega arith; parent = eqb-true (d.parent a) n e }, rest)
-        | inr e ↦ rw (cond-false b _ _ e) rest
-      ]
-
   pub children_are : (n : ℕ) → AllByRecursion (Child n) (children d n)
-  children_are n = childs n 1 (d.count - 1) (omega arith) (elim (cases_lt 0 d.count) [ inl h ↦ inr (omega arith) | inr h ↦ inl (omega arith) ])
+  children_are n = all_counted (Child n) (λ k. eqb (d.parent k) n) 1 (d.count - 1) (λ k lo hi e. record { low = omega arith; high = omega arith; parent = eqb-true (d.parent k) n e })
+
+-- every node but the root is a child of its parent
+pub child_of : {Item : Type 0} (d : Nodes Item) (k : ℕ) → 0 < k → k < d.count → Child d (d.parent k) k
+child_of d k h l = record { low = h; high = l; parent = refl }
 
 module _ {Item : Type 0} (d : Nodes Item) (l : ℕ) (tree : Tree d l) where
   -- more steps than n do not matter
@@ -35,7 +31,7 @@ module _ {Item : Type 0} (d : Nodes Item) (l : ℕ) (tree : Tree d l) where
   climb_enough zero (suc g) n h a b = sym (cond-true (eqb n 0) _ _ (eq-eqb n 0 (omega arith)))
   climb_enough (suc f) zero n h a b = cond-true (eqb n 0) _ _ (eq-eqb n 0 (omega arith))
   climb_enough (suc f) (suc g) n h a b = elim (cases_eq n 0) [
-    | inl e ↦ cond-true (eqb n 0) _ _ (eq-eqb n 0 e) ∙ sym (cond-true (eqb n 0) _ _ (eq-eqb n 0 e))
+    | inl e ↦ simp (eq-eqb n 0 e)
     | inr e ↦
         let p : d.parent n < n = tree.before n (omega arith) h in
         ap (λ (ks : List ℕ). cond (eqb n 0) [] (ks ++ d.parent n ∷ [])) (climb_enough f g (d.parent n) (omega arith) (omega arith) (omega arith))
@@ -53,67 +49,49 @@ module _ {Item : Type 0} (d : Nodes Item) (l : ℕ) (tree : Tree d l) where
   above_child n zero c = absurd (omega (arith, c.low))
   above_child n (suc f) c = above_suc f c.high ∙ ap (path d) c.parent
 
-  -- no node is a child of a later one or of itself: the children of n, searched from n + 1 on
-  skipped : (n j a m : ℕ) → 0 < a → a + j ≡ n + 1 → a + (j + m) ≤ d.count → filter (λ k. eqb (d.parent k) n) (range_with_len a (j + m)) ≡ filter (λ k. eqb (d.parent k) n) (range_with_len (n + 1) m)
-  skipped n zero a m h e le = λ i. filter (λ k. eqb (d.parent k) n) (range_with_len (at i) (len i))
+  pub child_gt : (n k : ℕ) → Child d n k → n < k
+  child_gt n k c = let lt : d.parent k < k = tree.before k c.low c.high in omega (arith, c.parent)
+
+  -- what holds of the root, and of each child where it holds of its parent, holds of every node
+  pub by_parents : (P : ℕ → Type 0) → P 0 → ((p n : ℕ) → Child d p n → P p → P n) → (n : ℕ) → n < d.count → P n
+  by_parents P root step n h = go n n (omega arith) h
     where
-      at : a ≡ n + 1
-      at = omega arith
-
-      len : 0 + m ≡ m
-      len = omega arith
-  skipped n (suc j) a m h e le =
-      let q : suc j + m ≡ suc (j + m) = omega arith in
-      let b : d.parent a < a = tree.before a h (omega arith) in
-      ap (λ (x : ℕ). filter (λ k. eqb (d.parent k) n) (range_with_len a x)) q
-      ∙ cond-false (eqb (d.parent a) n) _ _ (ne_eqb (d.parent a) n (λ z. omega arith))
-      ∙ skipped n j (a + 1) m (omega arith) (omega arith) (omega arith)
-
-  pub children_after : (n : ℕ) → n < d.count → children d n ≡ filter (λ k. eqb (d.parent k) n) (range_with_len (n + 1) (d.count - (n + 1)))
-  children_after n h =
-      let q : d.count - 1 ≡ n + (d.count - (n + 1)) = omega arith in
-      ap (λ (x : ℕ). filter (λ k. eqb (d.parent k) n) (range_with_len 1 x)) q ∙ skipped n n 1 (d.count - (n + 1)) (omega arith) (omega arith) (omega arith)
-
-pub every_append : {A : Type 0} (p : A → Bool) (xs ys : List A) → every p (xs ++ ys) ≡ (every p xs && every p ys)
-every_append p [] ys = refl
-every_append p (x ∷ xs) ys = and_step (p x) (every p xs) (every p ys) (every_append p xs ys)
-  where
-    and_step : (a b c : Bool) {x : Bool} → x ≡ (b && c) → (a && x) ≡ ((a && b) && c)
-    and_step true b c e = e
-    and_step false b c e = refl
+      go : (b n : ℕ) → n ≤ b → n < d.count → P n
+      go zero n le h = subst P (omega arith) root
+      go (suc b) n le h = elim (cases_eq n 0) [
+        | inl e ↦ subst P (sym e) root
+        | inr e ↦
+            let c : Child d (d.parent n) n = child_of d n (omega arith) h in
+            let lt : d.parent n < n = child_gt (d.parent n) n c in
+            step (d.parent n) n c (go b (d.parent n) (omega arith) (omega arith))
+      ]
 
 module _ {Item State Group Mark : Type 0} (R : Rules Item State Group Mark) (d : Nodes Item) where
-  pub state_append : (ks js : List ℕ) (s : State) → state_along R d (ks ++ js) s ≡ state_along R d js (state_along R d ks s)
-  state_append [] js s = refl
-  state_append (k ∷ ks) js s = state_append ks js (inside_at R d k s)
-
   pub chain_append : (ks js : List ℕ) (s : State) → chain_along R d (ks ++ js) s ≡ chain_along R d ks s ++ chain_along R d js (state_along R d ks s)
   chain_append [] js s = refl
-  chain_append (k ∷ ks) js s =
-      ap (λ (gs : List Group). groups_at R d k s ++ gs) (chain_append ks js (inside_at R d k s))
-      ∙ sym (append_assoc (groups_at R d k s) (chain_along R d ks (inside_at R d k s)) (chain_along R d js (state_along R d ks (inside_at R d k s))))
+  chain_append (k ∷ ks) js s = simp (chain_append ks js (inside_at R d k s), append_assoc)
 
   -- the chain of a node is that of what is above it, and its own groups
   pub chain_own : (s : State) (n : ℕ) → chain_of R d s n ≡ chain_along R d (above d n) s ++ groups_at R d n (state_of R d s n)
-  chain_own s n = chain_append (above d n) (n ∷ []) s ∙ ap (λ (gs : List Group). chain_along R d (above d n) s ++ gs) (append-nil _)
+  chain_own s n = simp (chain_append, append-nil)
 
   -- a node is shown exactly when all above it are drawn, and it is
   pub shown_from : (n : ℕ) → every (drawn_at R d) (above d n) ≡ true → drawn_at R d n ≡ true → shown R d n ≡ true
-  shown_from n a b = every_append (drawn_at R d) (above d n) (n ∷ []) ∙ and_from _ _ a (and_from _ _ b refl)
+  shown_from n a b = list_all-append (drawn_at R d) (above d n) (n ∷ []) ∙ and_from _ _ a (and_from _ _ b refl)
 
   pub shown_parts : (n : ℕ) → shown R d n ≡ true → (every (drawn_at R d) (above d n) ≡ true) × (drawn_at R d n ≡ true)
   shown_parts n e =
-      let q : (every (drawn_at R d) (above d n) ≡ true) × (every (drawn_at R d) (n ∷ []) ≡ true) = and_parts _ _ (sym (every_append (drawn_at R d) (above d n) (n ∷ [])) ∙ e) in
+      let q : (every (drawn_at R d) (above d n) ≡ true) × (every (drawn_at R d) (n ∷ []) ≡ true) = and_parts _ _ (sym (list_all-append (drawn_at R d) (above d n) (n ∷ [])) ∙ e) in
       (q.0, (and_parts _ _ q.1).0)
 
   pub not_shown : (n : ℕ) → (every (drawn_at R d) (above d n) ≡ false) ⊎ (drawn_at R d n ≡ false) → shown R d n ≡ false
-  not_shown n (inl a) = every_append (drawn_at R d) (above d n) (n ∷ []) ∙ and_left _ _ a
-  not_shown n (inr b) = every_append (drawn_at R d) (above d n) (n ∷ []) ∙ and_right _ _ (and_left _ _ b)
+  not_shown n (inl a) = list_all-append (drawn_at R d) (above d n) (n ∷ []) ∙ and_left _ _ a
+  not_shown n (inr b) = list_all-append (drawn_at R d) (above d n) (n ∷ []) ∙ and_right _ _ (and_left _ _ b)
 
 module _ {Item State Group Mark : Type 0} (R : Rules Item State Group Mark) (d : Nodes Item) (l : ℕ) (tree : Tree d l) where
   -- the state, the chain and the drawing above a child, by its parent's
   pub state_child : (s : State) (n k : ℕ) → Child d n k → state_of R d s k ≡ inside_at R d n (state_of R d s n)
-  state_child s n k c = ap (λ (ks : List ℕ). state_along R d ks s) (above_child d l tree n k c) ∙ state_append R d (above d n) (n ∷ []) s
+  state_child s n k c = ap (λ (ks : List ℕ). state_along R d ks s) (above_child d l tree n k c) ∙ fold-append (λ u k. inside_at R d k u) s (above d n) (n ∷ [])
 
   pub chain_child : (s : State) (n k : ℕ) → Child d n k → chain_along R d (above d k) s ≡ chain_of R d s n
   chain_child s n k c = ap (λ (ks : List ℕ). chain_along R d ks s) (above_child d l tree n k c)

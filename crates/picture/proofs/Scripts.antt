@@ -1,21 +1,20 @@
 -- Balanced scripts, and what scripts open and mark.
 use Rattle.std.proofs.Common.{◌≡◌, ℕ, zero, suc, ◌+◌, ◌*◌, List, [], ◌∷◌, ◌++◌, map, length, replicate, Some, sym, refl, ap, ◌∙◌, subst, append_assoc, append-nil, arith, length-append}
 use mathlib.Core.List.{map-map}
-use lib.ListN.{replicate-append-replicate}
+use lib.ListN.{replicate-append-replicate, length-replicate}
 use Rattle.std.specs.List.{flat_map}
 use Rattle.std.proofs.lemmas.List.{map-append, length-map}
+use lib.LanesLaws.{map-replicate}
 use Rattle.picture.specs.Script.{Script, rewrite, within, Balanced, open_after, groups_opened, marks_made, BalanceIsCounted, GroupsTakeTwoEventsMarksOne}
 use Rattle.picture.specs.Script.Event.{opened, marked, closed}
 use Rattle.picture.specs.Script.Balanced.{nothing, one_mark, one_group, in_turn}
-use Rattle.picture.proofs.Lists.{map_replicate, replicate_push}
+use Rattle.picture.proofs.Lists.{replicate_push}
 
 module _ {Group Mark : Type 0} where
   pub balanced_within : (gs : List Group) {s : Script Group Mark} → Balanced s → Balanced (within gs s)
   balanced_within [] {s} p = subst Balanced (sym (append-nil s)) p
   balanced_within (g ∷ gs) {s} p =
-      let C : Script Group Mark = replicate (length gs) closed in
-      let e : within gs s ++ closed ∷ [] ≡ (map opened gs ++ s) ++ (closed ∷ C) =
-      append_assoc (map opened gs ++ s) C (closed ∷ []) ∙ ap (λ (t : Script Group Mark). (map opened gs ++ s) ++ t) (replicate_push (length gs) closed) in
+      let e : within gs s ++ closed ∷ [] ≡ (map opened gs ++ s) ++ (closed ∷ replicate (length gs) closed) = simp (append_assoc, replicate_push) in
       subst (λ (t : Script Group Mark). Balanced (opened g ∷ t)) e (one_group g (within gs s) (balanced_within gs p))
 
   pub balanced_joined : {X : Type 0} (f : X → Script Group Mark) → ((x : X) → Balanced (f x)) → (xs : List X) → Balanced (flat_map f xs)
@@ -34,22 +33,6 @@ module _ {Group Mark : Type 0} where
   pub count_from_balanced : {s : Script Group Mark} → Balanced s → open_after 0 s ≡ Some 0
   count_from_balanced {s} p = ap (open_after 0) (sym (append-nil s)) ∙ counted_past p 0 []
 
-  -- counting goes on from where it stands
-  pub open_after_append : (s t : Script Group Mark) (n k : ℕ) → open_after n s ≡ Some k → open_after n (s ++ t) ≡ open_after k t
-  open_after_append [] t n k e = let q : n ≡ k = cc in ap (λ (x : ℕ). open_after x t) q
-  open_after_append (opened g ∷ s) t n k e = open_after_append s t (suc n) k e
-  open_after_append (marked m ∷ s) t n k e = open_after_append s t n k e
-  open_after_append (closed ∷ s) t zero k e = absurd (let z : ◌≡◌ {A = ℕ} 0 1 = cc in omega arith)
-  open_after_append (closed ∷ s) t (suc n) k e = open_after_append s t n k e
-
-  -- what is open below stays open
-  pub open_after_above : (s : Script Group Mark) (n k b : ℕ) → open_after n s ≡ Some k → open_after (n + b) s ≡ Some (k + b)
-  open_after_above [] n k b e = let q : n ≡ k = cc in ap (λ (x : ℕ). Some (x + b)) q
-  open_after_above (opened g ∷ s) n k b e = let q : suc (n + b) ≡ suc n + b = omega arith in ap (λ (x : ℕ). open_after x s) q ∙ open_after_above s (suc n) k b e
-  open_after_above (marked m ∷ s) n k b e = open_after_above s n k b e
-  open_after_above (closed ∷ s) zero k b e = absurd (let z : ◌≡◌ {A = ℕ} 0 1 = cc in omega arith)
-  open_after_above (closed ∷ s) (suc n) k b e = let q : suc n + b ≡ suc (n + b) = omega arith in ap (λ (x : ℕ). open_after x (closed ∷ s)) q ∙ open_after_above s n k b e
-
   -- a script that closes n groups which it did not open: n balanced scripts, each before a close, and one more
   data Closing : ℕ → Script Group Mark → Type 0 where
     last : (s : Script Group Mark) → Balanced s → Closing 0 s
@@ -67,10 +50,10 @@ module _ {Group Mark : Type 0} where
 
   closing_from_count : (s : Script Group Mark) (n : ℕ) → open_after n s ≡ Some 0 → Closing n s
   closing_from_count [] zero e = last [] nothing
-  closing_from_count [] (suc n) e = absurd (let z : suc n ≡ 0 = cc in omega arith)
+  closing_from_count [] (suc n) e = absurd (cc)
   closing_from_count (opened g ∷ s) n e = closing_opened g (closing_from_count s (suc n) e)
   closing_from_count (marked m ∷ s) n e = closing_after (marked m ∷ []) (one_mark m) (closing_from_count s n e)
-  closing_from_count (closed ∷ s) zero e = absurd (let z : ◌≡◌ {A = ℕ} 0 1 = cc in omega arith)
+  closing_from_count (closed ∷ s) zero e = absurd (cc)
   closing_from_count (closed ∷ s) (suc n) e = more n [] s nothing (closing_from_count s n e)
 
   balanced_from_closing : {n : ℕ} {s : Script Group Mark} → n ≡ 0 → Closing n s → Balanced s
@@ -94,26 +77,11 @@ module _ {Group Mark : Type 0} where
   marks_append (marked m ∷ s) t = ap (λ (x : List Mark). m ∷ x) (marks_append s t)
   marks_append (closed ∷ s) t = marks_append s t
 
-  pub groups_joined : {X : Type 0} (f : X → Script Group Mark) (xs : List X) → groups_opened (flat_map f xs) ≡ flat_map (λ x. groups_opened (f x)) xs
-  groups_joined f [] = refl
-  groups_joined f (x ∷ xs) = groups_append (f x) (flat_map f xs) ∙ ap (λ (ys : List Group). groups_opened (f x) ++ ys) (groups_joined f xs)
-
   pub balanced_length : {s : Script Group Mark} → Balanced s → length s ≡ 2 * length (groups_opened s) + length (marks_made s)
   balanced_length nothing = refl
   balanced_length (one_mark m) = refl
-  balanced_length (one_group g s p) =
-      let e : length s ≡ 2 * length (groups_opened s) + length (marks_made s) = balanced_length p in
-      let l : length (s ++ closed ∷ []) ≡ length s + 1 = length-append s (closed ∷ []) in
-      let a : length (groups_opened (s ++ closed ∷ [])) ≡ length (groups_opened s) = ap length (groups_append s (closed ∷ []) ∙ append-nil _) in
-      let b : length (marks_made (s ++ closed ∷ [])) ≡ length (marks_made s) = ap length (marks_append s (closed ∷ []) ∙ append-nil _) in
-      omega arith
-  balanced_length (in_turn s t p q) =
-      let e : length s ≡ 2 * length (groups_opened s) + length (marks_made s) = balanced_length p in
-      let f : length t ≡ 2 * length (groups_opened t) + length (marks_made t) = balanced_length q in
-      let l : length (s ++ t) ≡ length s + length t = length-append s t in
-      let a : length (groups_opened (s ++ t)) ≡ length (groups_opened s) + length (groups_opened t) = ap length (groups_append s t) ∙ length-append _ _ in
-      let b : length (marks_made (s ++ t)) ≡ length (marks_made s) + length (marks_made t) = ap length (marks_append s t) ∙ length-append _ _ in
-      omega arith
+  balanced_length (one_group g s p) = simp (groups_append, marks_append, length-append) (omega (arith, balanced_length p))
+  balanced_length (in_turn s t p q) = simp (groups_append, marks_append, length-append) (omega (arith, balanced_length p, balanced_length q))
 
 pub groups_closes : (Group Mark : Type 0) (n : ℕ) → groups_opened {Group = Group} {Mark = Mark} (replicate n closed) ≡ []
 groups_closes Group Mark zero = refl
@@ -134,20 +102,13 @@ marks_opens Mark (g ∷ gs) = marks_opens Mark gs
 module _ {Group Mark : Type 0} where
   -- the groups of a script within others are those and its own
   pub groups_within : (gs : List Group) (s : Script Group Mark) → groups_opened (within gs s) ≡ gs ++ groups_opened s
-  groups_within gs s =
-      groups_append (map opened gs ++ s) (replicate (length gs) closed)
-      ∙ ap (λ (x : List Group). groups_opened (map opened gs ++ s) ++ x) (groups_closes Group Mark (length gs))
-      ∙ append-nil _
-      ∙ groups_append (map opened gs) s
-      ∙ ap (λ (x : List Group). x ++ groups_opened s) (groups_opens Mark gs)
+  groups_within gs s = simp (groups_append, groups_closes, groups_opens, append-nil)
 
   pub marks_within : (gs : List Group) (s : Script Group Mark) → marks_made (within gs s) ≡ marks_made s
-  marks_within gs s =
-      marks_append (map opened gs ++ s) (replicate (length gs) closed)
-      ∙ ap (λ (x : List Mark). marks_made (map opened gs ++ s) ++ x) (marks_closes Group Mark (length gs))
-      ∙ append-nil _
-      ∙ marks_append (map opened gs) s
-      ∙ ap (λ (x : List Mark). x ++ marks_made s) (marks_opens Mark gs)
+  marks_within gs s = simp (marks_append, marks_closes, marks_opens, append-nil)
+
+pub length_within : {Group Mark : Type 0} (gs : List Group) (s : Script Group Mark) → length (within gs s) ≡ 2 * length gs + length s
+length_within gs s = simp (length-append, length-map, length-replicate) (omega arith)
 
 module _ {Group Mark Other Sign : Type 0} (f : Group → Other) (h : Mark → Sign) where
   pub balanced_rewritten : {s : Script Group Mark} → Balanced s → Balanced (map (rewrite f h) s)
@@ -172,22 +133,11 @@ module _ {Group Mark Other Sign : Type 0} (f : Group → Other) (h : Mark → Si
 
 -- a script within groups, rewritten, stands within the groups rewritten
 pub within_rewritten : {Group Mark Other Sign : Type 0} (f : Group → Other) (h : Mark → Sign) (gs : List Group) (s : Script Group Mark) → map (rewrite f h) (within gs s) ≡ within (map f gs) (map (rewrite f h) s)
-within_rewritten f h gs s =
-    map-append (rewrite f h) (map opened gs ++ s) (replicate (length gs) closed)
-    ∙ (λ i. map-append (rewrite f h) (map opened gs) s i ++ map_replicate (rewrite f h) (length gs) closed i)
-    ∙ (λ i. ((map-map (rewrite f h) opened gs ∙ sym (map-map opened f gs)) i ++ map (rewrite f h) s) ++ replicate (sym (length-map gs f) i) closed)
+within_rewritten f h gs s = simp (map-append, map-map, map-replicate, length-map)
 
 -- within groups within groups is within both
 pub within_within : {Group Mark : Type 0} (gs hs : List Group) (s : Script Group Mark) → within gs (within hs s) ≡ within (gs ++ hs) s
-within_within {Group} {Mark} gs hs s =
-    let C : ℕ → Script Group Mark = λ n. replicate n closed in
-    let n : length hs + length gs ≡ length (gs ++ hs) = let l : length (gs ++ hs) ≡ length gs + length hs = length-append gs hs in omega arith in
-    regroup (map opened gs) (map opened hs) s (C (length hs)) (C (length gs))
-    ∙ (λ i. (sym (map-append opened gs hs) i ++ s) ++ replicate-append-replicate (length hs) (length gs) closed i)
-    ∙ ap (λ (k : ℕ). (map opened (gs ++ hs) ++ s) ++ C k) n
-  where
-    regroup : (a b x c d : Script Group Mark) → (a ++ ((b ++ x) ++ c)) ++ d ≡ ((a ++ b) ++ x) ++ (c ++ d)
-    regroup a b x c d = simp append_assoc
+within_within gs hs s = let n : length hs + length gs ≡ length gs + length hs = omega arith in simp (append_assoc, map-append, length-append, replicate-append-replicate, n)
 
 -- rewritten twice
 pub rewrite_rewrite : {Group Mark Other Sign Third Token : Type 0} (f : Other → Third) (h : Sign → Token) (f' : Group → Other) (h' : Mark → Sign) (s : Script Group Mark) → map (rewrite f h) (map (rewrite f' h') s) ≡ map (rewrite (λ g. f (f' g)) (λ m. h (h' m))) s

@@ -3,20 +3,22 @@ use Rattle.std.proofs.Common.{◌≡◌, ℕ, zero, suc, ◌+◌, ◌<◌, ◌�
 use mathlib.Core.List.Memᴰ
 use Rattle.std.specs.List.{flat_map, AllByRecursion}
 use Rattle.std.proofs.lemmas.List.{length_push}
-use Rattle.std.proofs.lemmas.List.Elements.{filter-append}
+use Rattle.std.proofs.lemmas.List.Elements.{filter-append, recursion_from_All, filter_passes}
 use Rattle.std.proofs.ByRecursion.{All-append, All-weaker}
-use Rattle.std.proofs.lemmas.Bool.{cases_Bool, cases_eq, cond-true, cond-false, both_ways, eq-eqb, ne_eqb}
-use Rattle.picture.specs.Script.{Event, Script, rewrite, within, groups_opened}
+use Rattle.std.proofs.lemmas.Bool.{cases_Bool, cond-true, cond-false, both_ways, eq-eqb, ne_eqb}
+use Rattle.std.proofs.lemmas.List.Concat.{flat_map-append}
+use Rattle.picture.specs.Script.{Event, Script, within, groups_opened}
 use Rattle.picture.specs.Script.Event.{opened, marked, closed}
-use Rattle.picture.specs.Nodes.{Nodes, children, climb, above, path, Tree}
+use Rattle.picture.specs.Nodes.{Nodes, children, climb, above, path, Tree, order}
 use Rattle.picture.specs.Rules.{Rules, leaf_at, drawn_at, groups_at, inside_at, BareLeaves, nest}
-use Rattle.picture.specs.Document.{every, state_of, shown}
+use Rattle.picture.specs.Document.{state_of, shown}
 use Rattle.picture.specs.Brackets.{Owned, owned_by, owning, unowned, In, Inside, Outside, Stretch, own_groups, Bracketed, EachGroupOpensOnceRoundWhatItHolds}
-use Rattle.picture.proofs.Lists.{map_joined, joined_append, joined_by, all_both, all_left, all_right, all_joined}
-use Rattle.picture.proofs.Scripts.{within_rewritten, groups_append, groups_within}
-use Rattle.picture.proofs.Paths.{Child, children_are, above_child, state_child, drawn_child, shown_from, shown_parts}
-use Rattle.picture.proofs.Nests.{content, nest_drawn, nest_not_drawn, balanced_content, balanced_nest}
-use Rattle.picture.proofs.Members.{Parted, children_parted, child_of, self_in, in_le, above_lt, parent_above, parent_in, same_child}
+use Rattle.picture.proofs.Lists.{map_joined, all_joined, kept_joined, joined_none}
+use Rattle.picture.proofs.Scripts.{within_rewritten, groups_append, groups_closes, groups_opens}
+use Rattle.picture.proofs.Paths.{Child, children_are, above_child, state_child, drawn_child, shown_parts, child_gt, by_parents}
+use Rattle.picture.proofs.Nests.{content, nest_drawn, balanced_content, balanced_nest}
+use Rattle.picture.proofs.Members.{self_in, in_le, above_lt, parent_above, parent_in, same_child, Siblings, siblings}
+use Rattle.picture.proofs.Documents.{nest_groups}
 
 -- WITHOUT OWNERS
 
@@ -27,13 +29,10 @@ owned_things n i (x ∷ xs) = ap (λ (ys : List _). x ∷ ys) (owned_things n (i
 module _ {Item State Group Mark : Type 0} (R : Rules Item State Group Mark) (d : Nodes Item) where
   unowned_content : (l n : ℕ) (s : State) → ((k : ℕ) (u : State) → unowned (nest (owning R) d l k u) ≡ nest R d l k u) → unowned (content (owning R) d l n s) ≡ content R d l n s
   unowned_content l n s ih = elim (cases_Bool (leaf_at R d n)) [
-    | inl e ↦ ap unowned (cond-true (leaf_at (owning R) d n) _ _ e) ∙ sym (cond-true (leaf_at R d n) _ _ e)
+    | inl e ↦ simp e
     | inr e ↦
         let u : State = inside_at R d n s in
-        ap unowned (cond-false (leaf_at (owning R) d n) _ _ e)
-        ∙ map_joined (rewrite (λ (g : Owned Group). g.thing) (λ (m : Owned Mark). m.thing)) (λ k. nest (owning R) d l k u) (children d n)
-        ∙ joined_by (λ k. unowned (nest (owning R) d l k u)) (λ k. nest R d l k u) (children d n) (λ k. ih k u)
-        ∙ sym (cond-false (leaf_at R d n) _ _ e)
+        simp (e, map_joined) (λ i. flat_map (λ k. ih k u i) (children d n))
   ]
 
   -- told whose each group and mark is, the nest is the same
@@ -41,12 +40,8 @@ module _ {Item State Group Mark : Type 0} (R : Rules Item State Group Mark) (d :
   unfolding nest
   unowned_nest zero n s = refl
   unowned_nest (suc l) n s = elim (cases_Bool (drawn_at R d n)) [
-    | inr e ↦ ap unowned (nest_not_drawn (owning R) d l n s e) ∙ sym (nest_not_drawn R d l n s e)
-    | inl e ↦
-        ap unowned (nest_drawn (owning R) d l n s e)
-        ∙ within_rewritten (λ (g : Owned Group). g.thing) (λ (m : Owned Mark). m.thing) (owned_by n 0 (groups_at R d n s)) (content (owning R) d l n s)
-        ∙ (λ i. within (owned_things n 0 (groups_at R d n s) i) (unowned_content l n s (λ k u. unowned_nest l k u) i))
-        ∙ sym (nest_drawn R d l n s e)
+    | inr e ↦ simp e
+    | inl e ↦ simp (e, within_rewritten, owned_things, unowned_content l n s (λ k u. unowned_nest l k u))
   ]
 
 -- WHAT HOLDS OF EACH EVENT
@@ -102,8 +97,8 @@ module _ {Item State Group Mark : Type 0} (R : Rules Item State Group Mark) (d :
   -- the content of n is held by it, where the nests of its children are of these and what is below them
   held_content : (l n : ℕ) (s : State) → n < d.count → ((k : ℕ) (u : State) → k < d.count → AllByRecursion (About (Of k)) (nest (owning R) d l k u)) → AllByRecursion (Held n) (content (owning R) d l n s)
   held_content l n s h ih = elim (cases_Bool (leaf_at R d n)) [
-    | inl e ↦ subst (AllByRecursion (Held n)) (sym (cond-true (leaf_at (owning R) d n) _ _ e)) ((self_in d n, h), tt)
-    | inr e ↦ subst (AllByRecursion (Held n)) (sym (cond-false (leaf_at (owning R) d n) _ _ e))
+    | inl e ↦ simp e ((self_in d n, h), tt)
+    | inr e ↦ simp e
         (all_joined (Held n) (Child d n) (λ k. nest (owning R) d l k (inside_at R d n s)) (children d n) (children_are d n)
         (λ k c. All-weaker (About (Of k)) (Held n) (held_from_child n k c) (nest (owning R) d l k (inside_at R d n s)) (ih k (inside_at R d n s) c.high)))
   ]
@@ -113,12 +108,12 @@ module _ {Item State Group Mark : Type 0} (R : Rules Item State Group Mark) (d :
   unfolding nest
   of_nest zero n s h = tt
   of_nest (suc l) n s h = elim (cases_Bool (drawn_at R d n)) [
-    | inl e ↦ subst (AllByRecursion (About (Of n))) (sym (nest_drawn (owning R) d l n s e))
+    | inl e ↦ simp e
         (all_within (About (Of n)) n 0 (groups_at R d n s) (content (owning R) d l n s)
         (λ g q. let P : ℕ → Type 0 = Of n in subst P (sym q) (h, self_in d n))
         (All-weaker (Held n) (About (Of n)) (of_from_held n) (content (owning R) d l n s) (held_content l n s h (λ k u g. of_nest l k u g)))
         tt)
-    | inr e ↦ subst (AllByRecursion (About (Of n))) (sym (nest_not_drawn (owning R) d l n s e)) tt
+    | inr e ↦ simp e tt
   ]
 
   module _ (s₀ : State) where
@@ -151,14 +146,8 @@ module _ {Item State Group Mark : Type 0} (R : Rules Item State Group Mark) (d :
     shown_parent : (p n : ℕ) → Child d p n → shown R d n ≡ true → shown R d p ≡ true
     shown_parent p n c e = sym (drawn_child R d L tree p n c) ∙ (shown_parts R d n e).0
 
-    regroup : (b o j x k c a : Script (Owned Group) (Owned Mark)) → b ++ (((o ++ (j ++ (x ++ k))) ++ c) ++ a) ≡ (b ++ (o ++ j)) ++ (x ++ (k ++ (c ++ a)))
-    regroup b o j x k c a = simp append_assoc
-
     -- from a node to a child of it
     module _ (p n : ℕ) (c : Child d p n) (sh : shown R d n ≡ true) where
-      lt_parent : p < n
-      lt_parent = subst (λ (x : ℕ). x < n) c.parent (tree.before n c.low c.high)
-
       -- what is off p is off n
       off_child : (r : Event (Owned Group) (Owned Mark)) → About (Off p) r → About (Off n) r
       off_child r a = about_more (Off p) (Off n) (λ m o. (o.0, λ i. o.1 (parent_in d L tree p n m c o.0 i))) r a
@@ -175,23 +164,17 @@ module _ {Item State Group Mark : Type 0} (R : Rules Item State Group Mark) (d :
       off_opens : (u : State) → AllByRecursion (About (Off n)) (map opened (owned_by p 0 (groups_at R d p u)))
       off_opens u = all_opens (About (Off n)) p 0 (groups_at R d p u) (λ g e.
           let P : ℕ → Type 0 = Off n in
-          let lt : p < n = lt_parent in
+          let lt : p < n = child_gt d L tree p n c in
           let hi : n < d.count = c.high in
           let h : p < d.count = omega arith in
           subst P (sym e) (h, λ i. let le : n ≤ p = in_le d L tree n p h i in omega arith))
 
       -- the other children of p, on either side of n
-      others_left : (t : Parted n (children d p)) → AllByRecursion (λ k. Child d p k × (k ≡ n → ⊥)) t.left
-      others_left t =
-          let ks : AllByRecursion (Child d p) (t.left ++ n ∷ t.right) = subst (AllByRecursion (Child d p)) t.is (children_are d p) in
-          All-weaker (λ k. Child d p k × (k < n)) (λ k. Child d p k × (k ≡ n → ⊥)) (λ k x. (x.0, λ y. omega (arith, x.1))) t.left
-          (all_both (Child d p) (λ k. k < n) t.left (all_left (Child d p) t.left (n ∷ t.right) ks) t.lefts)
+      others_left : (t : Siblings d p n) → AllByRecursion (λ k. Child d p k × (k ≡ n → ⊥)) t.left
+      others_left t = All-weaker (λ k. Child d p k × (k < n)) (λ k. Child d p k × (k ≡ n → ⊥)) (λ k x. (x.0, λ y. omega (arith, x.1))) t.left t.lefts
 
-      others_right : (t : Parted n (children d p)) → AllByRecursion (λ k. Child d p k × (k ≡ n → ⊥)) t.right
-      others_right t =
-          let ks : AllByRecursion (Child d p) (t.left ++ n ∷ t.right) = subst (AllByRecursion (Child d p)) t.is (children_are d p) in
-          All-weaker (λ k. Child d p k × (n < k)) (λ k. Child d p k × (k ≡ n → ⊥)) (λ k x. (x.0, λ y. omega (arith, x.1))) t.right
-          (all_both (Child d p) (λ k. n < k) t.right (all_right (Child d p) t.left (n ∷ t.right) ks).1 t.rights)
+      others_right : (t : Siblings d p n) → AllByRecursion (λ k. Child d p k × (k ≡ n → ⊥)) t.right
+      others_right t = All-weaker (λ k. Child d p k × (n < k)) (λ k. Child d p k × (k ≡ n → ⊥)) (λ k x. (x.0, λ y. omega (arith, x.1))) t.right t.rights
 
       deeper : length (above d n) ≡ length (above d p) + 1
       deeper = ap length (above_child d L tree p n c) ∙ length_push (above d p) p
@@ -205,11 +188,10 @@ module _ {Item State Group Mark : Type 0} (R : Rules Item State Group Mark) (d :
           let u : State = state_of R d s₀ p in
           let v : State = inside_at R d p u in
           let F : ℕ → Script (Owned Group) (Owned Mark) = λ k. nest (owning R) d (suc l) k v in
-          let t : Parted n (children d p) = children_parted d p n c in
+          let t : Siblings d p n = siblings d p n c in
           let leaf : leaf_at R d p ≡ false = ap (leaf_at R d) (sym c.parent) ∙ bare n c.low c.high in
           let bo : content (owning R) d (suc l) p u ≡ flat_map F t.left ++ (F n ++ flat_map F t.right) =
-          cond-false (leaf_at (owning R) d p) _ _ leaf ∙ ap (flat_map F) t.is ∙ joined_append F t.left (n ∷ t.right) in
-          let st : nest (owning R) d (suc l) n v ≡ nest (owning R) d (suc l) n (state_of R d s₀ n) = ap (λ (x : State). nest (owning R) d (suc l) n x) (sym (state_child R d L tree s₀ p n c)) in
+          cond-false (leaf_at (owning R) d p) _ _ leaf ∙ ap (flat_map F) t.is ∙ flat_map-append F t.left (n ∷ t.right) in
           let gs : List (Owned Group) = owned_by p 0 (groups_at R d p u) in
           let O : Script (Owned Group) (Owned Mark) = map opened gs in
           let C : Script (Owned Group) (Owned Mark) = replicate (length gs) closed in
@@ -221,8 +203,7 @@ module _ {Item State Group Mark : Type 0} (R : Rules Item State Group Mark) (d :
             splits =
                 e
                 ∙ ap (λ (x : Script (Owned Group) (Owned Mark)). before ++ (x ++ after)) (nest_drawn (owning R) d (suc l) p u (shown_parts R d p (shown_parent p n c sh)).1 ∙ ap (within gs) bo)
-                ∙ regroup before O (flat_map F t.left) (F n) (flat_map F t.right) C after
-                ∙ ap (λ (x : Script (Owned Group) (Owned Mark)). (before ++ (O ++ flat_map F t.left)) ++ (x ++ (flat_map F t.right ++ (C ++ after)))) st;
+                ∙ simp (append_assoc, state_child R d L tree s₀ p n c);
             room = omega arith;
             befores =
                 All-append (About (Off n)) before (O ++ flat_map F t.left) (All-weaker (About (Off p)) (About (Off n)) off_child before b)
@@ -232,16 +213,10 @@ module _ {Item State Group Mark : Type 0} (R : Rules Item State Group Mark) (d :
                 (All-append (About (Off n)) C after (all_closes (About (Off n)) (length gs) tt) (All-weaker (About (Off p)) (About (Off n)) off_child after a));
           }
 
-    found_by : (b n : ℕ) → n ≤ b → n < d.count → shown R d n ≡ true → Found n
-    found_by zero n h l sh = subst Found (omega arith) found_root
-    found_by (suc b) n h l sh = elim (cases_eq n 0) [
-      | inl e ↦ subst Found (sym e) found_root
-      | inr e ↦
-          let c : Child d (d.parent n) n = child_of d n (omega arith) l in
-          let lt : d.parent n < n = tree.before n (omega arith) l in
-          let f : Found (d.parent n) = found_by b (d.parent n) (omega arith) (omega arith) (shown_parent (d.parent n) n c sh) in
-          found_child (d.parent n) n c sh f.l f.before f.after f.splits f.room f.befores f.afters
-    ]
+    found : (n : ℕ) → n < d.count → shown R d n ≡ true → Found n
+    found =
+        by_parents d L tree (λ n. shown R d n ≡ true → Found n) (λ sh. found_root)
+        (λ p n c ih sh. let f : Found p = ih (shown_parent p n c sh) in found_child p n c sh f.l f.before f.after f.splits f.room f.befores f.afters)
 
     outside_from_off : (n : ℕ) (r : Event (Owned Group) (Owned Mark)) → About (Off n) r → Outside d n r
     outside_from_off n (opened g) p = p.1
@@ -250,7 +225,7 @@ module _ {Item State Group Mark : Type 0} (R : Rules Item State Group Mark) (d :
 
     pub stretch_of : (n : ℕ) → n < d.count → shown R d n ≡ true → Stretch d n (own_groups R d s₀ n) (nest (owning R) d L 0 s₀)
     stretch_of n h sh =
-        let f : Found n = found_by n n (omega arith) h sh in
+        let f : Found n = found n h sh in
         let s : State = state_of R d s₀ n in
         record {
           before = f.before;
@@ -263,43 +238,20 @@ module _ {Item State Group Mark : Type 0} (R : Rules Item State Group Mark) (d :
           outside_after = All-weaker (About (Off n)) (Outside d n) (outside_from_off n) f.after f.afters;
         }
 
-    -- all is of shown nodes
-    abbrev OfShown : Event (Owned Group) (Owned Mark) → Type 0
-    OfShown r = About (λ m. shown R d m ≡ true) r
-
-    nest_of_shown : (l n : ℕ) → every (drawn_at R d) (above d n) ≡ true → AllByRecursion OfShown (nest (owning R) d l n (state_of R d s₀ n))
-    unfolding nest
-    nest_of_shown zero n h = tt
-    nest_of_shown (suc l) n h = elim (cases_Bool (drawn_at R d n)) [
-      | inr e ↦ subst (AllByRecursion OfShown) (sym (nest_not_drawn (owning R) d l n (state_of R d s₀ n) e)) tt
-      | inl e ↦
-          let sh : shown R d n ≡ true = shown_from R d n h e in
-          subst (AllByRecursion OfShown) (sym (nest_drawn (owning R) d l n (state_of R d s₀ n) e))
-          (all_within OfShown n 0 (groups_at R d n (state_of R d s₀ n)) (content (owning R) d l n (state_of R d s₀ n))
-          (λ g q. ap (shown R d) q ∙ sh)
-          (elim (cases_Bool (leaf_at R d n)) [
-            | inl f ↦ subst (AllByRecursion OfShown) (sym (cond-true (leaf_at (owning R) d n) _ _ f)) (sh, tt)
-            | inr f ↦ subst (AllByRecursion OfShown) (sym (cond-false (leaf_at (owning R) d n) _ _ f))
-                (all_joined OfShown (Child d n) (λ k. nest (owning R) d l k (inside_at R d n (state_of R d s₀ n))) (children d n) (children_are d n)
-                (λ k c. subst (λ (u : State). AllByRecursion OfShown (nest (owning R) d l k u)) (state_child R d L tree s₀ n k c)
-                (nest_of_shown l k (drawn_child R d L tree n k c ∙ sh))))
-          ])
-          tt)
-    ]
-
 -- THE GROUPS OF ONE NODE
 
 owned_kept : {Group : Type 0} (n i : ℕ) (gs : List Group) → filter (λ (g : Owned Group). eqb g.node n) (owned_by n i gs) ≡ owned_by n i gs
 owned_kept n i [] = refl
 owned_kept n i (g ∷ gs) = cond-true (eqb n n) _ _ (eq-eqb n n refl) ∙ ap (λ (x : List (Owned _)). record { node = n; place = i; thing = g } ∷ x) (owned_kept n (i + 1) gs)
 
+owned_other : {Group : Type 0} (n k i : ℕ) → (k ≡ n → ⊥) → (gs : List Group) → filter (λ (g : Owned Group). eqb g.node n) (owned_by k i gs) ≡ []
+owned_other n k i ne [] = refl
+owned_other n k i ne (g ∷ gs) = cond-false (eqb k n) _ _ (ne_eqb k n ne) ∙ owned_other n k (i + 1) ne gs
+
 module _ {Group Mark : Type 0} (n : ℕ) where
   -- the groups of n that a script opens
   abbrev groups_of : Script (Owned Group) (Owned Mark) → List (Owned Group)
   groups_of s = filter (λ g. eqb g.node n) (groups_opened s)
-
-  groups_of_append : (s t : Script (Owned Group) (Owned Mark)) → groups_of (s ++ t) ≡ groups_of s ++ groups_of t
-  groups_of_append s t = ap (filter (λ g. eqb g.node n)) (groups_append s t) ∙ filter-append (λ g. eqb g.node n) (groups_opened s) (groups_opened t)
 
   no_groups_of : (P : Event (Owned Group) (Owned Mark) → Type 0) → ((g : Owned Group) → P (opened g) → g.node ≡ n → ⊥) → (s : Script (Owned Group) (Owned Mark)) → AllByRecursion P s → groups_of s ≡ []
   no_groups_of P h [] a = refl
@@ -317,21 +269,19 @@ module _ {Item State Group Mark : Type 0} (R : Rules Item State Group Mark) (d :
       no_groups_of n (Outside d n) (λ g o e. o (subst (λ (m : ℕ). In n (path d m)) (sym e) (self_in d n))) in
       let between : groups_of n t.between ≡ [] =
       no_groups_of n (Inside d n) (λ g i e. let lt : n < n = above_lt d L tree n n h (subst (λ (m : ℕ). In n (above d m)) e i) in omega arith) t.between t.inside in
-      let mid : groups_of n (within gs t.between) ≡ gs =
-      ap (filter (λ (g : Owned Group). eqb g.node n)) (groups_within gs t.between)
-      ∙ filter-append (λ (g : Owned Group). eqb g.node n) gs (groups_opened t.between)
-      ∙ (λ i. owned_kept n 0 (groups_at R d n (state_of R d s₀ n)) i ++ between i)
-      ∙ append-nil gs in
       ap (groups_of n) t.splits
-      ∙ groups_of_append n t.before (within gs t.between ++ t.after)
-      ∙ ap (λ (x : List (Owned Group)). x ++ groups_of n (within gs t.between ++ t.after)) (off t.before t.outside_before)
-      ∙ groups_of_append n (within gs t.between) t.after
-      ∙ (λ i. mid i ++ off t.after t.outside_after i)
-      ∙ append-nil gs
+      ∙ simp (groups_closes, groups_opens, groups_append, filter-append, off t.before t.outside_before, off t.after t.outside_after, between, owned_kept, append-nil)
 
-  root_shown : AllByRecursion (OfShown R d L tree bare s₀) (nest (owning R) d L 0 s₀)
-  unfolding climb
-  root_shown = nest_of_shown R d L tree bare s₀ L 0 refl
+  -- the groups that open are of shown nodes
+  once_not_shown : (n : ℕ) → shown R d n ≡ false → groups_of n (nest (owning R) d L 0 s₀) ≡ []
+  once_not_shown n e =
+      let own : ℕ → List (Owned Group) = own_groups R d s₀ in
+      let kept : List ℕ = filter (shown R d) (order d L 0) in
+      ap (filter (λ (g : Owned Group). eqb g.node n)) (nest_groups (owning R) d L tree bare s₀)
+      ∙ kept_joined (λ (g : Owned Group). eqb g.node n) own kept
+      ∙ joined_none (λ k. shown R d k ≡ true) (λ k. filter (λ (g : Owned Group). eqb g.node n) (own k)) kept
+      (recursion_from_All (λ k. shown R d k ≡ true) kept (filter_passes (shown R d) (order d L 0)))
+      (λ k sh. owned_other n k 0 (λ q. both_ways (shown R d n) e (ap (shown R d) (sym q) ∙ sh)) (groups_at R d k (state_of R d s₀ k)))
 
   pub bracketed : Bracketed R d s₀ (nest (owning R) d L 0 s₀)
   bracketed = record {
@@ -339,9 +289,7 @@ module _ {Item State Group Mark : Type 0} (R : Rules Item State Group Mark) (d :
     stretch = stretch_of R d L tree bare s₀;
     once = λ n h. elim (cases_Bool (shown R d n)) [
       | inl e ↦ once_shown n h e ∙ sym (cond-true (shown R d n) _ _ e)
-      | inr e ↦
-          no_groups_of n (OfShown R d L tree bare s₀) (λ g o q. both_ways (shown R d n) e (ap (shown R d) (sym q) ∙ o)) (nest (owning R) d L 0 s₀) root_shown
-          ∙ sym (cond-false (shown R d n) _ _ e)
+      | inr e ↦ once_not_shown n e ∙ sym (cond-false (shown R d n) _ _ e)
     ];
   }
 

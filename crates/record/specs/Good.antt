@@ -7,8 +7,8 @@ use Rattle.geom.specs.Size.{finite_rect, valid_rect, finite_ruler}
 use Rattle.geom.specs.declared.rect.Rect.{Rect}
 use Rattle.record.specs.declared.Group.{Group}
 use Rattle.record.specs.declared.Mark.{Mark}
-use Rattle.record.specs.declared.Record.{Record}
-use Rattle.record.specs.declared.Record.TheVariants as variants
+use Rattle.record.specs.Records.{Record}
+use Rattle.record.specs.declared.Event.TheVariants as variants
 
 -- finite, both sides above 0; or none
 unfoldable pub good_clip : Option Rect → Bool

@@ -6,8 +6,8 @@ use Rattle.geom.specs.declared.rect.Rect.{Rect}
 use Rattle.geom.specs.declared.rect.Ruler.{Ruler}
 use Rattle.record.specs.declared.Group.{Group}
 use Rattle.record.specs.declared.Mark.{Mark}
-use Rattle.record.specs.declared.Record.{Record}
-use Rattle.record.specs.declared.Record.TheVariants as variants
+use Rattle.record.specs.Records.{Record}
+use Rattle.record.specs.declared.Event.TheVariants as variants
 
 -- the float with -0 as 0
 unfoldable pub zeroed : Float → Float

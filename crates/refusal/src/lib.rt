@@ -4,9 +4,10 @@
 
 ghost use Rattle.std.specs.Prelude.{◌≡◌, Some};
 ghost use Rattle.refusal.specs.Numbers.{number_of};
-ghost use Rattle.refusal.specs.Order.{first_of};
+ghost use Rattle.refusal.specs.Order.{first_of, unless};
 ghost use Rattle.refusal.specs.Words.{words_of};
 
+use std::error::Error;
 use std::fmt;
 
 /// Why a call was refused. `number` gives the number that people and programs know it by.
@@ -89,15 +90,17 @@ impl fmt::Display for Refusal {
     }
 }
 
-/// The refusal of the first check that fails, in the order given; none where all pass.
-/// A check is a test that says whether it fails, and the refusal that it then gives.
-pub fn first(checks: &[(bool, Refusal)]) -> Option<Refusal>
-    ensures { result ≡ first_of checks.now }
+impl Error for Refusal {}
+
+/// The checks in their order, each a test that says whether it fails and the refusal that it then gives: refused by the
+/// first that fails, and else passed.
+pub fn first<E: Copy>(checks: &[(bool, E)]) -> Result<(), E>
+    ensures { result ≡ unless (first_of checks.now) tt }
 {
-    for check in checks {
-        if check.0 {
-            return Some(check.1);
+    for (fails, refusal) in checks {
+        if *fails {
+            return Err(*refusal);
         }
     }
-    None
+    Ok(())
 }

@@ -1,2 +1,3 @@
 mod Zeros
-mod Hexing
+pub mod Hexing
+pub mod Flags

@@ -1,2 +1,5 @@
 pub mod Bits
-pub mod Answers
+pub mod Edits
+pub mod Plain
+pub mod People
+pub mod Replies

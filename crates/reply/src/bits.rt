@@ -1,7 +1,6 @@
 //! How a float is written for programs: the eight hexadecimal digits of its bits.
 
-ghost use Rattle.std.specs.Prelude.{◌≡◌, ◌%◌, Some};
-ghost use Rattle.std.specs.Char.{digit_char};
+ghost use Rattle.std.specs.Prelude.{◌≡◌, Some};
 ghost use Rattle.reply.specs.Bits.{bits_of, bits_text};
 
 use std::fmt;
@@ -22,13 +21,6 @@ pub fn bits_of(x: f32) -> u32
     }
 }
 
-// The last hexadecimal digit of a number.
-fn last_digit(n: u32) -> char
-    ensures { result ≡ digit_char (n % 16) }
-{
-    char::from_digit(n % 16, 16).unwrap_or('0')
-}
-
 /// A float that is written as the eight hexadecimal digits of its bits.
 #[derive(Clone, Copy)]
 pub struct Bits(pub f32);
@@ -37,18 +29,7 @@ impl fmt::Display for Bits {
     ghost output = { λ b. Some (bits_text b.0) };
 
     fn fmt<W: fmt::Write>(&self, f: &mut fmt::Formatter<W>) -> fmt::Result {
-        let n = bits_of(self.0);
-        write!(
-            f,
-            "{}{}{}{}{}{}{}{}",
-            last_digit(n >> 28),
-            last_digit(n >> 24),
-            last_digit(n >> 20),
-            last_digit(n >> 16),
-            last_digit(n >> 12),
-            last_digit(n >> 8),
-            last_digit(n >> 4),
-            last_digit(n),
-        )
+        let bits = bits_of(self.0);
+        write!(f, "{bits:08x}")
     }
 }

@@ -4,8 +4,12 @@
 
 mod answer;
 mod bits;
+mod people;
+mod plain;
 mod reply;
 
-pub use answer::{Answer, ForPeople, Plain};
+pub use answer::{Answer, Failure};
 pub use bits::{Bits, bits_of};
-pub use reply::{Reply, Style, style_of};
+pub use people::ForPeople;
+pub use plain::Plain;
+pub use reply::{Reply, Style, UnknownStyle};

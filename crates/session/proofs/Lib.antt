@@ -1,1 +1,1 @@
-mod Stepping
+pub mod Roots

@@ -1,8 +1,7 @@
 -- What a session holds.
-use Rattle.std.specs.Prelude.{ℕ, IfSome, vec_items, vec_len, Option}
+use Rattle.std.specs.Prelude.{ℕ, vec_items, vec_len, Option}
 use Rattle.std.specs.Option.{option_map}
-use Rattle.svgtree.specs.Links.{Linked}
-use Rattle.svgtree.specs.Memory.{nodes_of, model_of}
+use Rattle.svgtree.specs.Memory.{model_of}
 use Rattle.svgtree.specs.Model.{Model}
 use Rattle.session.specs.declared.Session.{Session}
 
@@ -13,7 +12,3 @@ pub record State : Type 0 where
 
 abbrev pub state_of : Session → State
 state_of s = record { document = option_map (λ d. model_of d (vec_items s.nodes)) s.document; room = vec_len s.nodes }
-
--- the links in memory agree with the document
-abbrev pub Sound : Session → Type 0
-Sound s = IfSome s.document (λ d. Linked (nodes_of d (vec_items s.nodes)))

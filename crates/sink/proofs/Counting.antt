@@ -1,7 +1,7 @@
 -- What is counted of a script of two parts. Assumes nothing.
 use Rattle.std.proofs.Common.{◌≡◌, ◌+◌, ◌-◌, List, [], ◌∷◌, ◌++◌, length, refl, arith}
-use Rattle.record.specs.declared.Record.{Record}
-use Rattle.record.specs.declared.Record.TheVariants.{Open, Mark, Close}
+use Rattle.record.specs.Records.{Record}
+use Rattle.record.specs.declared.Event.TheVariants.{Open, Mark, Close}
 use Rattle.sink.specs.Script.{opens, closes, places, level}
 
 pub opens_append : (s t : List Record) → opens (s ++ t) ≡ opens s + opens t

@@ -1,12 +1,15 @@
 -- What `Framed` does by calls of the sink below is what its own meaning says. Assumes nothing.
-use Rattle.std.proofs.Common.{◌≡◌, ℕ, suc, ◌-◌, ◌<◌, ◌≤◌, Bool, true, false, cond, not, eqb, leb, List, [], ◌∷◌, ◌++◌, length, replicate, is_err, Some, None, Ok, Err, Result, sym, refl, ap, ◌∙◌, subst, append_assoc, arith, length-append}
+use Rattle.std.proofs.Common.{◌≡◌, ℕ, suc, ◌-◌, ◌<◌, Bool, true, false, cond, not, eqb, leb, List, [], ◌∷◌, ◌++◌, length, replicate, is_err, Some, None, Ok, Err, Option, Result, sym, refl, ap, ◌∙◌, subst, append_assoc, arith, length-append}
 use mathlib.Core.Path.{fun_ext}
 use mathlib.Core.Bool.{Bool-set}
+use Rattle.std.specs.Option.{option_eq}
 use Rattle.std.proofs.lemmas.Bool.Decides.{nat_tests}
+use Rattle.std.proofs.lemmas.Bool.{eqb-true, not-false}
+use Rattle.refusal.specs.Order.{first_of, unless}
 use Rattle.record.specs.declared.Group.{Group}
 use Rattle.record.specs.declared.Mark.{Mark}
-use Rattle.record.specs.declared.Record.{Record}
-use Rattle.record.specs.declared.Record.TheVariants as variants
+use Rattle.record.specs.Records.{Record}
+use Rattle.record.specs.declared.Event.TheVariants as variants
 use Rattle.record.specs.Good.{good_group}
 use Rattle.record.specs.Zero.{zeroed_group}
 use Rattle.sink.specs.declared.fault.SinkFault.{SinkFault}
@@ -14,14 +17,14 @@ use Rattle.sink.specs.declared.fault.SinkFault.TheVariants.{OutOfTurn, NoPlaces}
 use Rattle.sink.specs.Script.{level}
 use Rattle.sink.specs.Zeroed.{group_twice}
 use Rattle.sink.specs.Meaning.{Meaning, Limit, exceeds, rewritten}
-use Rattle.sink.specs.Calls.{Outcome, Tried, checked, then, room_checks, open_all, settle, cleared, with_script, begin_step, open_step, mark_step, close_step, end_step, depth_of}
+use Rattle.sink.specs.Calls.{Outcome, Tried, then, room_checks, open_all, settle, cleared, with_script, begin_step, open_step, mark_step, close_step, end_step, depth_of}
 use Rattle.sink.specs.Layers.{framed}
 use Rattle.sink.proofs.Outcomes.{Is, ok_not_err, then_none, then_then}
 use Rattle.sink.proofs.Counting.{level_close}
 
 -- one more group of a base is opened
 abbrev opened : Limit → Group → List Record → Tried
-opened limit h s = checked (room_checks limit s) (s ++ variants.Open h ∷ [])
+opened limit h s = unless (first_of (room_checks limit s)) (s ++ variants.Open h ∷ [])
 
 pub open_all_push : (limit : Limit) (gs : List Group) (h : Group) (s : List Record) → open_all limit (gs ++ h ∷ []) s ≡ then (open_all limit gs s) (opened limit (zeroed_group h))
 open_all_push limit [] h s = then_none (opened limit (zeroed_group h) s)
@@ -57,7 +60,7 @@ module _ (g : Group) (good : good_group g ≡ true) where
 
 -- the base opened in an empty script
 abbrev begun : Meaning → Tried
-begun m = then (checked ((exceeds 0 m.limit, NoPlaces) ∷ []) []) (open_all m.limit m.base.groups)
+begun m = then (unless (first_of ((exceeds 0 m.limit, NoPlaces) ∷ [])) []) (open_all m.limit m.base.groups)
 
 -- after the group is opened, or refused and the sink below cleared
 abbrev pub kept : Result (Unit {0}) SinkFault → Meaning → Meaning
@@ -76,7 +79,7 @@ module _ (g : Group) (good : good_group g ≡ true) where
   begun_framed : (m : Meaning) → begun (framed g good m) ≡ then (begun m) (opened m.limit (rewritten m.rewriting g))
   begun_framed m =
       let h = rewritten m.rewriting g in
-      let start = checked ((exceeds 0 m.limit, NoPlaces) ∷ []) [] in
+      let start = unless (first_of ((exceeds 0 m.limit, NoPlaces) ∷ [])) [] in
       ap (then start) (fun_ext (λ s. open_all_push m.limit m.base.groups h s))
       ∙ sym (then_then start (open_all m.limit m.base.groups) (opened m.limit (zeroed_group h)))
       ∙ ap (λ k. then (begun m) (opened m.limit k)) (group_twice (m.rewriting.apply (zeroed_group g)))
@@ -116,6 +119,10 @@ module _ (g : Group) (good : good_group g ≡ true) where
 
 -- ---- depth
 
+pub one_open : (depth : Option ℕ) → false ≡ not (option_eq eqb depth (Some 1)) → depth ≡ Some 1
+one_open None e = let z : ◌≡◌ {A = ℕ} 0 1 = cc in absurd (omega arith)
+one_open (Some d) e = let same : d ≡ 1 = eqb-true d 1 (not-false _ (sym e)) in ap (λ k. Some k) same
+
 some_at : (b : Bool) (k d : ℕ) → Some d ≡ cond b (Some k) None → (b ≡ true) × (d ≡ k)
 some_at true k d e = (refl, cc)
 some_at false k d e = let z : ◌≡◌ {A = ℕ} 0 1 = cc in absurd (omega arith)
@@ -128,26 +135,7 @@ module _ (g : Group) (good : good_group g ≡ true) where
   longer : (m : Meaning) → length (framed g good m).base.groups ≡ suc (length m.base.groups)
   longer m = simp length-append (omega arith)
 
-  pub depth_framed : (m : Meaning) (d : ℕ) → Some d ≡ depth_of m → Some (d - 1) ≡ depth_of (framed g good m)
-  depth_framed m d e =
-      let p = depth_some m d e in
-      let n : level m.script - length (framed g good m).base.groups ≡ d - 1 = rw (longer m) (omega (arith, p.1)) in
-      rw (p.0, n) refl
-
   -- ---- close and end
-
-  -- the second check fails
-  turned_away : (m : Meaning) (b c t : Bool) (s : List Record) → c ≡ true → Over g (Err OutOfTurn) m (settle (framed g good m) (framed g good m) t (checked ((b, OutOfTurn) ∷ (c, OutOfTurn) ∷ []) s))
-  turned_away m true c t s e = over g good (Err OutOfTurn) m _ (refl, refl)
-  turned_away m false true t s e = over g good (Err OutOfTurn) m _ (refl, refl)
-  turned_away m false false t s e = let z : ◌≡◌ {A = ℕ} 0 1 = cc in absurd (omega arith)
-
-  pub close_shallow : (m : Meaning) (d : ℕ) → Some d ≡ depth_of m → d ≤ 1 → Over g (Err OutOfTurn) m (close_step (framed g good m))
-  close_shallow m d e low =
-      let p = depth_some m d e in
-      let base = longer m in
-      let fails : leb (level m.script) (length (framed g good m).base.groups) ≡ true = grind (arith, nat_tests, p.1) in
-      turned_away m (not m.turn) _ true _ fails
 
   pub close_deep : (m n : Meaning) (d : ℕ) (r : Result (Unit {0}) SinkFault) → Some d ≡ depth_of m → 1 < d → Is r n (close_step m) → Over g r n (close_step (framed g good m))
   close_deep m n d r e high is =
@@ -156,30 +144,23 @@ module _ (g : Group) (good : good_group g ≡ true) where
       let same : leb (level m.script) (length (framed g good m).base.groups) ≡ leb (level m.script) (length m.base.groups) = grind (arith, nat_tests, p.1) in
       rw (is.0, is.1, same) (settled g good m true _)
 
-  pub end_others : (m : Meaning) (d : ℕ) → Some d ≡ depth_of m → (d ≡ 1 → ⊥) → Over g (Err OutOfTurn) m (end_step (framed g good m))
-  end_others m d e other =
-      let p = depth_some m d e in
-      let base = longer m in
-      let fails : not (eqb (level m.script) (length (framed g good m).base.groups)) ≡ true = grind (arith, nat_tests, p.1) in
-      turned_away m (not m.turn) _ false _ fails
-
   closed_at : (m n : Meaning) (b c : Bool) (s : List Record) → b ≡ false → c ≡ false
-      → n ≡ (settle m m true (checked ((b, OutOfTurn) ∷ (c, OutOfTurn) ∷ []) s)).next → n ≡ with_script m s true
+      → n ≡ (settle m m true (unless (first_of ((b, OutOfTurn) ∷ (c, OutOfTurn) ∷ [])) s)).next → n ≡ with_script m s true
   closed_at m n false false s e f is = is
   closed_at m n true c s e f is = let z : ◌≡◌ {A = ℕ} 0 1 = cc in absurd (omega arith)
   closed_at m n false true s e f is = let z : ◌≡◌ {A = ℕ} 0 1 = cc in absurd (omega arith)
 
   ended_at : (m : Meaning) (s t : List Record) (c d e : Bool) → c ≡ false → d ≡ false → e ≡ false
-      → let n = with_script m s true in let f = framed g good m in let o = settle n n false (checked ((c, OutOfTurn) ∷ []) t) in Over g o.result o.next (settle f f false (checked ((d, OutOfTurn) ∷ (e, OutOfTurn) ∷ []) t))
+      → let n = with_script m s true in let f = framed g good m in let o = settle n n false (unless (first_of ((c, OutOfTurn) ∷ [])) t) in Over g o.result o.next (settle f f false (unless (first_of ((d, OutOfTurn) ∷ (e, OutOfTurn) ∷ [])) t))
   ended_at m s t false false false x y z = over g good (Ok tt) (with_script m t false) _ (refl, refl)
   ended_at m s t true d e x y z = let w : ◌≡◌ {A = ℕ} 0 1 = cc in absurd (omega arith)
   ended_at m s t false true e x y z = let w : ◌≡◌ {A = ℕ} 0 1 = cc in absurd (omega arith)
   ended_at m s t false false true x y z = let w : ◌≡◌ {A = ℕ} 0 1 = cc in absurd (omega arith)
 
-  pub end_alone : (m n p : Meaning) (d : ℕ) (r q : Result (Unit {0}) SinkFault) → Some d ≡ depth_of m → d ≡ 1 → Is r n (close_step m) → Is q p (end_step n)
+  pub end_alone : (m n p : Meaning) (r q : Result (Unit {0}) SinkFault) → Some 1 ≡ depth_of m → Is r n (close_step m) → Is q p (end_step n)
       → Over g q p (end_step (framed g good m))
-  end_alone m n p d r q e one is then_is =
-      let k = depth_some m d e in
+  end_alone m n p r q e is then_is =
+      let k = depth_some m 1 e in
       let base = longer m in
       let lv = level_close m.script in
       let on : not m.turn ≡ false = ap not k.0 in

@@ -6,7 +6,7 @@ use Rattle.geom.specs.declared.matrix.Matrix.{Matrix}
 use Rattle.geom.specs.declared.rect.Rect.{Rect}
 use Rattle.record.specs.declared.Group.{Group}
 use Rattle.record.specs.declared.Mark.{Mark}
-use Rattle.record.specs.declared.Record.TheVariants as variants
+use Rattle.record.specs.declared.Event.TheVariants as variants
 use Rattle.record.specs.Good.{good_group, good_mark}
 use Rattle.record.specs.Zero.{zeroed_matrix, zeroed_rect, zeroed_clip, zeroed_group, zeroed_ruler, zeroed_mark}
 use Rattle.sink.specs.declared.fault.SinkFault.{SinkFault}
@@ -14,7 +14,7 @@ use Rattle.sink.specs.Script.{opens, closes, level}
 use Rattle.sink.specs.Zeroed.{group_good, mark_good}
 use Rattle.sink.specs.Equal.{equal, equal_matrix, equal_clip, equal_group, equal_ruler, equal_mark}
 use Rattle.sink.specs.Meaning.{Meaning, rewritten}
-use Rattle.sink.specs.Calls.{Tried, settle, cleared, with_script, open_checks, mark_checks, close_checks, end_checks, begin_step, open_step, mark_step, close_step, end_step}
+use Rattle.sink.specs.Calls.{Tried, settle, cleared, with_script, begin_step, open_step, mark_step, close_step, end_step}
 use Rattle.sink.specs.Laws.{Call, step, run, Bounded, CallsKeepLimitBaseAndRewriting, RefusedCallsChangeNothing, EqualGroupsDoTheSame, EqualMarksDoTheSame, RunsStayBounded}
 use Rattle.sink.specs.Laws.Call.{clearing, beginning, opening, marking, closing, ending}
 use Rattle.sink.proofs.Outcomes.{ok_not_err, check_passed, checked_ok}
@@ -136,37 +136,37 @@ held_begin m e =
 
 held_open : (m : Meaning) (g : Group) → Held m → (open_step m g).result ≡ Ok tt → Held (open_step m g).next
 held_open m g held e =
-    let on = check_passed m m true _ _ _ tt e in
+    let on = check_passed m m true _ _ _ _ tt e in
     let is = held.0 (not-false m.turn on.0) in
     let r = variants.Open (rewritten m.rewriting g) in
     let o = opens_append m.script (r ∷ []) in
     let c = closes_append m.script (r ∷ []) in
-    held_in_turn (with_script m (m.script ++ r ∷ []) true) _ (ap (λ x. x.next) (checked_ok m m true (open_checks m g) _ tt e)) ((open_tells m g tt e is.0).1, omega (arith, o, c, is.1))
+    held_in_turn (with_script m (m.script ++ r ∷ []) true) _ (ap (λ x. x.next) (checked_ok m m true _ _ tt e)) ((open_tells m g tt e is.0).1, omega (arith, o, c, is.1))
 
 held_mark : (m : Meaning) (k : Mark) → Held m → (mark_step m k).result ≡ Ok tt → Held (mark_step m k).next
 held_mark m k held e =
-    let on = check_passed m m true _ _ _ tt e in
+    let on = check_passed m m true _ _ _ _ tt e in
     let is = held.0 (not-false m.turn on.0) in
     let r = variants.Mark (zeroed_mark k) in
     let o = opens_append m.script (r ∷ []) in
     let c = closes_append m.script (r ∷ []) in
-    held_in_turn (with_script m (m.script ++ r ∷ []) true) _ (ap (λ x. x.next) (checked_ok m m true (mark_checks m k) _ tt e)) ((mark_tells m k tt e is.0).1, omega (arith, o, c, is.1))
+    held_in_turn (with_script m (m.script ++ r ∷ []) true) _ (ap (λ x. x.next) (checked_ok m m true _ _ tt e)) ((mark_tells m k tt e is.0).1, omega (arith, o, c, is.1))
 
 held_close : (m : Meaning) → Held m → (close_step m).result ≡ Ok tt → Held (close_step m).next
 held_close m held e =
-    let on = check_passed m m true _ _ _ tt e in
+    let on = check_passed m m true _ _ _ _ tt e in
     let is = held.0 (not-false m.turn on.0) in
-    let beyond : leb (level m.script) (length m.base.groups) ≡ false = (check_passed m m true _ _ _ tt on.1).0 in
+    let beyond : leb (level m.script) (length m.base.groups) ≡ false = (check_passed m m true _ _ _ _ tt on.1).0 in
     let o = opens_append m.script (variants.Close ∷ []) in
     let c = closes_append m.script (variants.Close ∷ []) in
     let open_still : closes m.script + 1 + length m.base.groups ≤ opens m.script = grind (arith, nat_tests, beyond, is.1) in
-    held_in_turn (with_script m (m.script ++ variants.Close ∷ []) true) _ (ap (λ x. x.next) (checked_ok m m true (close_checks m) _ tt e)) (fine_close m.limit m.script is.0, omega (arith, o, c, open_still))
+    held_in_turn (with_script m (m.script ++ variants.Close ∷ []) true) _ (ap (λ x. x.next) (checked_ok m m true _ _ tt e)) (fine_close m.limit m.script is.0, omega (arith, o, c, open_still))
 
 held_end : (m : Meaning) → Held m → (end_step m).result ≡ Ok tt → Held (end_step m).next
 held_end m held e =
-    let on = check_passed m m false _ _ _ tt e in
+    let on = check_passed m m false _ _ _ _ tt e in
     let is = held.0 (not-false m.turn on.0) in
-    rw (ap (λ x. x.next) (checked_ok m m false (end_checks m) _ tt e)) (λ x. let z : ◌≡◌ {A = ℕ} 0 1 = cc in absurd (omega arith), inr (fine_closes m.limit (length m.base.groups) m.script is.0))
+    rw (ap (λ x. x.next) (checked_ok m m false _ _ tt e)) (λ x. let z : ◌≡◌ {A = ℕ} 0 1 = cc in absurd (omega arith), inr (fine_closes m.limit (length m.base.groups) m.script is.0))
 
 held_step : (call : Call) (m : Meaning) → Held m → Held (step call m).next
 held_step clearing m held = held_clear m

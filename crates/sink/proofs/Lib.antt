@@ -1,7 +1,9 @@
 pub mod Outcomes
 pub mod Counting
 pub mod Bounds
+pub mod Calling
 pub mod Begins
+pub mod Counts
 pub mod Passing
 pub mod Equals
 pub mod Stripping

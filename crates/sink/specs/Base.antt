@@ -1,8 +1,8 @@
 -- A base as it stands in a script.
 use Rattle.std.specs.Prelude.{List, map, length, replicate}
 use Rattle.record.specs.declared.Group.{Group}
-use Rattle.record.specs.declared.Record.{Record}
-use Rattle.record.specs.declared.Record.TheVariants.{Open, Close}
+use Rattle.record.specs.Records.{Record}
+use Rattle.record.specs.declared.Event.TheVariants.{Open, Close}
 use Rattle.record.specs.Zero.{zeroed_group}
 use Rattle.sink.specs.Meaning.{Base}
 

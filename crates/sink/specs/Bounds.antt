@@ -1,6 +1,6 @@
 -- How deep a script may nest.
 use Rattle.std.specs.Prelude.{ℕ, ◌≤◌, List, take}
-use Rattle.record.specs.declared.Record.{Record}
+use Rattle.record.specs.Records.{Record}
 use Rattle.sink.specs.Script.{level}
 use Rattle.sink.specs.Meaning.{most_open}
 

@@ -1,9 +1,10 @@
 -- What each call of a sink answers, and what it makes of the meaning.
 use Rattle.std.specs.Prelude.{ℕ, ◌+◌, ◌-◌, Bool, true, false, cond, not, List, [], ◌∷◌, ◌++◌, length, replicate, Some, None, Ok, Err, Option, Result, ◌==◌, nat_le}
+use Rattle.refusal.specs.Order.{first_of, unless}
 use Rattle.record.specs.declared.Group.{Group}
 use Rattle.record.specs.declared.Mark.{Mark}
-use Rattle.record.specs.declared.Record.{Record}
-use Rattle.record.specs.declared.Record.TheVariants as variants
+use Rattle.record.specs.Records.{Record}
+use Rattle.record.specs.declared.Event.TheVariants as variants
 use Rattle.record.specs.Good.{good_group, good_mark}
 use Rattle.record.specs.Zero.{zeroed_group, zeroed_mark}
 use Rattle.sink.specs.declared.fault.SinkFault.{SinkFault}
@@ -20,11 +21,6 @@ Checks = List (Bool × SinkFault)
 -- what a call makes of the script, or why it is refused
 abbrev pub Tried : Type 0
 Tried = Result (List Record) SinkFault
-
--- the fault of the first check that fails, or else that script
-abbrev pub checked : Checks → List Record → Tried
-checked [] s = Ok s
-checked (check ∷ later) s = cond check.0 (Err check.1) (checked later s)
 
 abbrev pub then : Tried → (List Record → Tried) → Tried
 then (Ok s) next = next s
@@ -51,7 +47,7 @@ end_checks m = (not m.turn, OutOfTurn) ∷ (not (level m.script == length m.base
 -- the groups of a base opened one by one after a script
 abbrev pub open_all : Limit → List Group → List Record → Tried
 open_all limit [] s = Ok s
-open_all limit (g ∷ gs) s = then (checked (room_checks limit s) (s ++ variants.Open (zeroed_group g) ∷ [])) (open_all limit gs)
+open_all limit (g ∷ gs) s = then (unless (first_of (room_checks limit s)) (s ++ variants.Open (zeroed_group g) ∷ [])) (open_all limit gs)
 
 -- ---- the calls
 
@@ -71,20 +67,20 @@ settle kept m t (Ok s) = record { result = Ok tt; next = with_script m s t }
 settle kept m t (Err f) = record { result = Err f; next = kept }
 
 abbrev pub begin_step : Meaning → Outcome
-begin_step m = settle (cleared m) m true (then (checked ((exceeds 0 m.limit, NoPlaces) ∷ []) []) (open_all m.limit m.base.groups))
+begin_step m = settle (cleared m) m true (then (unless (first_of ((exceeds 0 m.limit, NoPlaces) ∷ [])) []) (open_all m.limit m.base.groups))
 
 abbrev pub open_step : Meaning → Group → Outcome
-open_step m g = settle m m true (checked (open_checks m g) (m.script ++ variants.Open (rewritten m.rewriting g) ∷ []))
+open_step m g = settle m m true (unless (first_of (open_checks m g)) (m.script ++ variants.Open (rewritten m.rewriting g) ∷ []))
 
 abbrev pub mark_step : Meaning → Mark → Outcome
-mark_step m k = settle m m true (checked (mark_checks m k) (m.script ++ variants.Mark (zeroed_mark k) ∷ []))
+mark_step m k = settle m m true (unless (first_of (mark_checks m k)) (m.script ++ variants.Mark (zeroed_mark k) ∷ []))
 
 abbrev pub close_step : Meaning → Outcome
-close_step m = settle m m true (checked (close_checks m) (m.script ++ variants.Close ∷ []))
+close_step m = settle m m true (unless (first_of (close_checks m)) (m.script ++ variants.Close ∷ []))
 
 -- the groups of the base are closed
 abbrev pub end_step : Meaning → Outcome
-end_step m = settle m m false (checked (end_checks m) (m.script ++ replicate (length m.base.groups) variants.Close))
+end_step m = settle m m false (unless (first_of (end_checks m)) (m.script ++ replicate (length m.base.groups) variants.Close))
 
 -- how many groups are open beyond the base; none out of turn
 abbrev pub depth_of : Meaning → Option ℕ

@@ -6,5 +6,6 @@ pub mod Meaning
 pub mod Base
 pub mod Bounds
 pub mod Calls
+pub mod Rooms
 pub mod Layers
 pub mod Laws

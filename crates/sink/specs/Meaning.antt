@@ -4,8 +4,8 @@ use Rattle.std.proofs.Math.Nat.{min-le_right}
 use Rattle.std.specs.List.{AllByRecursion}
 use Rattle.std.proofs.lemmas.Bool.{le-leb}
 use Rattle.record.specs.declared.Group.{Group}
-use Rattle.record.specs.declared.Record.{Record}
-use Rattle.record.specs.declared.Record.TheVariants.{Open, Mark, Close}
+use Rattle.record.specs.Records.{Record}
+use Rattle.record.specs.declared.Event.TheVariants.{Open, Mark, Close}
 use Rattle.record.specs.Good.{good_group}
 use Rattle.record.specs.Zero.{zeroed_group, zeroed_mark}
 

@@ -1,7 +1,7 @@
 -- A script is a list of records; what is counted of one.
 use Rattle.std.specs.Prelude.{ℕ, ◌+◌, ◌-◌, List, [], ◌∷◌}
-use Rattle.record.specs.declared.Record.{Record}
-use Rattle.record.specs.declared.Record.TheVariants.{Open, Mark, Close}
+use Rattle.record.specs.Records.{Record}
+use Rattle.record.specs.declared.Event.TheVariants.{Open, Mark, Close}
 
 abbrev pub opens : List Record → ℕ
 opens [] = 0

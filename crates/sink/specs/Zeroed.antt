@@ -14,11 +14,11 @@ use Rattle.record.specs.Zero.{zeroed, zeroed_matrix, zeroed_rect, zeroed_clip, z
 use Rattle.record.specs.declared.Group.{Group}
 use Rattle.record.specs.declared.Mark.{Mark}
 
-nought : decimal 0 1 ≡ fin false 0 (pos 0)
+pub nought : decimal 0 1 ≡ fin false 0 (pos 0)
 unfolding decimal round odd units size span climb count_trailing_zeros
 nought = refl
 
-unit : decimal 1 1 ≡ fin false 1 (pos 0)
+pub unit : decimal 1 1 ≡ fin false 1 (pos 0)
 unfolding decimal round odd units size span climb count_trailing_zeros
 unit = refl
 

@@ -16,12 +16,12 @@ pub enum SinkFault {
     NoPlaces,
 }
 
-impl SinkFault {
-    /// The refusal, with the number that people and programs know it by.
-    pub fn refusal(self) -> Refusal
-        ensures { result ≡ refusal_of self }
-    {
-        match self {
+/// The refusal that people and programs know the fault by.
+impl From<SinkFault> for Refusal {
+    ghost from_gives = { λ fault refusal. refusal ≡ refusal_of fault };
+
+    fn from(fault: SinkFault) -> Refusal {
+        match fault {
             SinkFault::OutOfTurn => Refusal::OutOfTurn,
             SinkFault::NotGood => Refusal::BadValue,
             SinkFault::TooDeep => Refusal::TooDeep,

@@ -84,8 +84,7 @@ impl<S: Sink> Sink for Framed<S> {
     fn begin(&mut self) -> Result<(), SinkFault> {
         self.below.begin()?;
         let opened = self.below.open(self.group);
-        let refused = opened.is_err();
-        if refused {
+        if opened.is_err() {
             self.below.clear();
         }
         opened
@@ -100,22 +99,14 @@ impl<S: Sink> Sink for Framed<S> {
     }
 
     fn close(&mut self) -> Result<(), SinkFault> {
-        let Some(depth) = self.below.depth() else {
-            return Err(SinkFault::OutOfTurn);
-        };
-        let on_base = depth <= 1;
-        if on_base {
-            return Err(SinkFault::OutOfTurn);
+        match self.below.depth() {
+            Some(depth) if depth > 1 => self.below.close(),
+            _ => Err(SinkFault::OutOfTurn),
         }
-        self.below.close()
     }
 
     fn end(&mut self) -> Result<(), SinkFault> {
-        let Some(depth) = self.below.depth() else {
-            return Err(SinkFault::OutOfTurn);
-        };
-        let others_open = depth != 1;
-        if others_open {
+        if self.below.depth() != Some(1) {
             return Err(SinkFault::OutOfTurn);
         }
         self.below.close()?;
@@ -131,9 +122,6 @@ impl<S: Sink> Sink for Framed<S> {
     }
 
     fn depth(&self) -> Option<usize> {
-        match self.below.depth() {
-            Some(depth) => Some(depth.saturating_sub(1)),
-            None => None,
-        }
+        self.below.depth().map(|depth| depth.saturating_sub(1))
     }
 }

@@ -14,11 +14,13 @@ use record::{Group, Mark, Record};
 mod fault;
 mod framed;
 mod laws;
+mod room;
 mod strip;
 
 pub use fault::SinkFault;
 pub use framed::{Framed, NotFramed};
 pub use laws::calls_stand;
+pub use room::Room;
 pub use strip::Strip;
 
 /// At most so many groups are open at once in a sink, its base included.

@@ -1,125 +1,82 @@
 -- A notebook's calls do what its meaning says. Assumes nothing.
-use Rattle.std.proofs.Common.{◌≡◌, ℕ, ◌+◌, ◌-◌, ◌<◌, ◌≤◌, min, Bool, true, false, eqb, leb, List, [], ◌∷◌, ◌++◌, map, length, get_or, Some, None, Ok, Err, Option, sym, refl, ap, ◌∙◌, arith, length-append}
+use Rattle.std.proofs.Common.{◌≡◌, ℕ, ◌+◌, ◌<◌, ◌≤◌, min, Bool, true, false, List, [], ◌∷◌, ◌++◌, map, length, get_or, Some, None, Ok, ℤ, pos, is_some, vec_items, vec_capacity, Option, sym, refl, ap, ◌∙◌, subst, arith}
 use native.Mathlib.Nat.{min-eq_left}
 use Rattle.std.specs.List.{slice_get}
+use Rattle.std.specs.Option.{ForSome}
 use Rattle.std.proofs.lemmas.Option.{slice_get_past, slice_get-get_or}
-use Rattle.std.proofs.lemmas.List.{append-nil, length-map, map_push, get_or-map}
-use Rattle.std.proofs.lemmas.Bool.Decides.{nat_tests}
+use Rattle.std.proofs.lemmas.List.{append-nil, length-map, length_push, map_push, get_or-map}
 use Rattle.record.specs.declared.Group.{Group}
 use Rattle.record.specs.declared.Mark.{Mark}
-use Rattle.record.specs.declared.Record.{Record}
-use Rattle.record.specs.declared.Record.TheVariants as variants
-use Rattle.record.specs.Good.{good_group, good_mark}
-use Rattle.record.specs.Zero.{zeroed_record}
-use Rattle.sink.specs.declared.fault.SinkFault.TheVariants.{OutOfTurn, TooDeep, NoPlaces}
-use Rattle.sink.specs.Script.{opens, closes, places, level}
+use Rattle.record.specs.Records.{Record}
+use Rattle.record.specs.declared.Event.TheVariants as variants
+use Rattle.record.specs.Zero.{zeroed_record, zeroed_group}
+use Rattle.sink.specs.declared.room.Room.{Room}
+use Rattle.sink.specs.Script.{places}
 use Rattle.sink.specs.Zeroed.{group_twice}
-use Rattle.sink.specs.Meaning.{most_places, exceeds}
-use Rattle.sink.specs.Calls.{open_step, mark_step, close_step, end_step, depth_of, with_script}
+use Rattle.sink.specs.Meaning.{Meaning, most_places, unlayered, limit_of}
+use Rattle.sink.specs.Calls.{Outcome, open_checks, mark_checks, close_checks, end_checks, open_step, mark_step, close_step, end_step, with_script}
+use Rattle.sink.specs.Rooms.{IsRoomOf, Answers}
 use Rattle.sink.proofs.Outcomes.{Is}
-use Rattle.sink.proofs.Counting.{opens_append, closes_append, balance}
+use Rattle.sink.proofs.Calling.{Passes, Adds, fits_in, open_adds, mark_adds, close_adds, end_accepted}
+use Rattle.sink.proofs.Counting.{balance}
+use Rattle.sink_tests.specs.declared.notebook.Notebook.{Notebook}
 use Rattle.sink_tests.specs.Notebooks.{Sound, allowance, limit_from, notebook_meaning}
 
-zeroed_opens : (rs : List Record) → opens (map zeroed_record rs) ≡ opens rs
-zeroed_opens [] = refl
-zeroed_opens (variants.Open g ∷ rs) = rw (zeroed_opens rs) refl
-zeroed_opens (variants.Mark m ∷ rs) = zeroed_opens rs
-zeroed_opens (variants.Close ∷ rs) = zeroed_opens rs
+abbrev pub noted : Notebook → List Record
+noted t = vec_items t.records
 
-zeroed_closes : (rs : List Record) → closes (map zeroed_record rs) ≡ closes rs
-zeroed_closes [] = refl
-zeroed_closes (variants.Open g ∷ rs) = zeroed_closes rs
-zeroed_closes (variants.Mark m ∷ rs) = zeroed_closes rs
-zeroed_closes (variants.Close ∷ rs) = rw (zeroed_closes rs) refl
+abbrev pub meaning_of : Notebook → Meaning
+meaning_of t = notebook_meaning (noted t) (is_some t.turn) t.limit
 
-full : (limit : Option ℕ) (used more : ℕ) → used ≤ allowance limit → allowance limit ≤ most_places → allowance limit - used < more → exceeds (used + more) (limit_from limit) ≡ true
-full (Some n) used more within most less = let e : min n most_places ≡ n = min-eq_left most in rw e (grind (arith, nat_tests))
-full None used more within most less = refl
+pos_same : (a b : ℕ) → pos a ≡ pos b → a ≡ b
+pos_same a b e = cc
 
-roomy : (limit : Option ℕ) (used more : ℕ) → allowance limit ≤ most_places → 0 < more → more ≤ allowance limit - used → exceeds (used + more) (limit_from limit) ≡ false
-roomy (Some n) used more most some enough = let e : min n most_places ≡ n = min-eq_left most in rw e (grind (arith, nat_tests))
-roomy None used more most some enough = absurd (omega arith)
+-- places that are within the limit are within the memory
+allowed : (limit : Option ℕ) (used : ℕ) → allowance limit ≤ most_places → (limit_from limit).number ≡ pos used → used ≤ allowance limit
+allowed (Some n) used most e = let f = pos_same (min n most_places) used e in omega (arith, f)
+allowed None used most e = let z : ◌≡◌ {A = ℕ} 0 1 = cc in absurd (omega arith)
 
-module _ (rs : List Record) (cap : ℕ) (limit : Option ℕ) (nested : ℕ) (ok : Sound rs cap limit nested) where
-  level_is : level (map zeroed_record rs) ≡ nested
-  level_is = omega (arith, zeroed_opens rs, zeroed_closes rs, ok.3)
+-- the room of a turn is that of the notebook in it
+abbrev pub Roomy : List Record → Option ℕ → Option Room → Type 0
+Roomy rs limit turn = ForSome turn (λ room. IsRoomOf room (notebook_meaning rs true limit))
 
-  places_is : places (map zeroed_record rs) ≡ length rs + nested
-  places_is = omega (arith, balance (map zeroed_record rs), zeroed_opens rs, zeroed_closes rs, ok.3, length-map rs zeroed_record)
+roomy_turn : (rs : List Record) (limit : Option ℕ) (room : Room) → IsRoomOf room (notebook_meaning rs true limit) → Roomy rs limit (Some room)
+roomy_turn rs limit room is = λ k e. let same : room ≡ k = cc in subst (λ (j : Room). IsRoomOf j (notebook_meaning rs true limit)) same is
 
-  -- one record more
-  pub sound_push : (r : Record) (more : ℕ) → length rs + 1 + more ≤ allowance limit → more + (closes rs + closes (r ∷ [])) ≡ opens rs + opens (r ∷ []) → Sound (rs ++ r ∷ []) cap limit more
-  sound_push r more room bal =
-      let o = opens_append rs (r ∷ []) in
-      let c = closes_append rs (r ∷ []) in
-      let n : length (rs ++ r ∷ []) ≡ length rs + 1 = length-append rs (r ∷ []) in
-      (omega (arith, n, room), ok.1, ok.2, omega (arith, o, c, bal))
+module _ (t : Notebook) where
+  pub room_is : (turn : Room) → t.turn ≡ Some turn → IsRoomOf turn (meaning_of t)
+  room_is turn on = subst (λ (o : Option Room). IsRoomOf turn (notebook_meaning (noted t) (is_some o) t.limit)) (sym on) (t.roomy turn on)
 
-  pushed : (t : Bool) (r : Record) → t ≡ true → notebook_meaning (rs ++ r ∷ []) t limit ≡ with_script (notebook_meaning rs t limit) (map zeroed_record rs ++ zeroed_record r ∷ []) true
-  pushed t r on = rw (map_push zeroed_record rs r, on) refl
+  -- a call that adds a record, for which there is room then
+  module _ (r : Record) (o : Outcome) (more : Room) (added : Adds (meaning_of t) (zeroed_record r) o more) where
+    pub within : length (noted t) < vec_capacity t.records
+    within =
+        let s = map zeroed_record (noted t) in
+        let used = allowed t.limit (places (s ++ zeroed_record r ∷ []) + more.places_left) t.ok.1 added.1.places_left in
+        omega (arith, length-map (noted t) zeroed_record, fits_in (meaning_of t) (zeroed_record r) more added.1, used, t.ok.0)
 
-  module _ (t : Bool) (on : t ≡ true) where
-    pub open_deep : (g : Group) → good_group g ≡ true → 112 ≤ nested → Is (Err TooDeep) (notebook_meaning rs t limit) (open_step (notebook_meaning rs t limit) g)
-    open_deep g good deep =
-        let lv = level_is in
-        let fails : leb 112 (level (map zeroed_record rs)) ≡ true = grind (arith, nat_tests) in
-        rw (on, good, fails) (refl, refl)
+    module _ (rs : List Record) (is : rs ≡ noted t ++ r ∷ []) where
+      next_is : notebook_meaning rs true t.limit ≡ with_script (meaning_of t) (map zeroed_record (noted t) ++ zeroed_record r ∷ []) true
+      next_is = rw (is, map_push zeroed_record (noted t) r) refl
 
-    pub open_full : (g : Group) → good_group g ≡ true → nested < 112 → allowance limit - (length rs + nested) < 2 → Is (Err NoPlaces) (notebook_meaning rs t limit) (open_step (notebook_meaning rs t limit) g)
-    open_full g good low less =
-        let lv = level_is in
-        let passes : leb 112 (level (map zeroed_record rs)) ≡ false = grind (arith, nat_tests) in
-        let fails : exceeds (places (map zeroed_record rs) + 2) (limit_from limit) ≡ true = rw places_is (full limit (length rs + nested) 2 ok.0 ok.2 less) in
-        rw (on, good, passes, fails) (refl, refl)
+      pub kept : Roomy rs t.limit (Some more)
+      kept = roomy_turn rs t.limit more (rw next_is added.1)
 
-    pub open_done : (g : Group) → good_group g ≡ true → nested < 112 → 2 ≤ allowance limit - (length rs + nested) → Is (Ok tt) (notebook_meaning (rs ++ variants.Open g ∷ []) t limit) (open_step (notebook_meaning rs t limit) g)
-    open_done g good low enough =
-        let lv = level_is in
-        let deep : leb 112 (level (map zeroed_record rs)) ≡ false = grind (arith, nat_tests) in
-        let room : exceeds (places (map zeroed_record rs) + 2) (limit_from limit) ≡ false = rw places_is (roomy limit (length rs + nested) 2 ok.2 (omega arith) enough) in
-        rw (pushed t (variants.Open g) on, on, good, deep, room, group_twice g) (refl, refl)
+      pub done : Is (Ok tt) (notebook_meaning rs true t.limit) o
+      done = rw (added.0, next_is) (refl, refl)
 
-    pub mark_full : (k : Mark) → good_mark k ≡ true → allowance limit - (length rs + nested) < 1 → Is (Err NoPlaces) (notebook_meaning rs t limit) (mark_step (notebook_meaning rs t limit) k)
-    mark_full k good less =
-        let fails : exceeds (places (map zeroed_record rs) + 1) (limit_from limit) ≡ true = rw places_is (full limit (length rs + nested) 1 ok.0 ok.2 less) in
-        rw (on, good, fails) (refl, refl)
+  -- ---- what the sink's room says of the notebook
 
-    pub mark_done : (k : Mark) → good_mark k ≡ true → 1 ≤ allowance limit - (length rs + nested) → Is (Ok tt) (notebook_meaning (rs ++ variants.Mark k ∷ []) t limit) (mark_step (notebook_meaning rs t limit) k)
-    mark_done k good enough =
-        let room : exceeds (places (map zeroed_record rs) + 1) (limit_from limit) ≡ false = rw places_is (roomy limit (length rs + nested) 1 ok.2 (omega arith) enough) in
-        rw (pushed t (variants.Mark k) on, on, good, room) (refl, refl)
+  module _ (more : Room) where
+    pub open_added : (g : Group) → Answers (open_checks (meaning_of t) g) (open_step (meaning_of t) g) (Ok more) → Adds (meaning_of t) (zeroed_record (variants.Open g)) (open_step (meaning_of t) g) more
+    open_added g told = (open_adds (map zeroed_record (noted t)) (is_some t.turn) (limit_from t.limit) more g told.0 told.1).1
 
-    pub close_none : nested ≡ 0 → Is (Err OutOfTurn) (notebook_meaning rs t limit) (close_step (notebook_meaning rs t limit))
-    close_none none =
-        let lv = level_is in
-        let fails : leb (level (map zeroed_record rs)) 0 ≡ true = grind (arith, nat_tests) in
-        rw (on, fails) (refl, refl)
+    pub mark_added : (k : Mark) → Answers (mark_checks (meaning_of t) k) (mark_step (meaning_of t) k) (Ok more) → Adds (meaning_of t) (zeroed_record (variants.Mark k)) (mark_step (meaning_of t) k) more
+    mark_added k told = (mark_adds (map zeroed_record (noted t)) (is_some t.turn) (limit_from t.limit) more k told.0 told.1).1
 
-    pub close_done : (nested ≡ 0 → ⊥) → Is (Ok tt) (notebook_meaning (rs ++ variants.Close ∷ []) t limit) (close_step (notebook_meaning rs t limit))
-    close_done some =
-        let lv = level_is in
-        let passes : leb (level (map zeroed_record rs)) 0 ≡ false = grind (arith, nat_tests) in
-        rw (pushed t variants.Close on, on, passes) (refl, refl)
+    pub close_added : Answers (close_checks (meaning_of t)) (close_step (meaning_of t)) (Ok more) → Adds (meaning_of t) variants.Close (close_step (meaning_of t)) more
+    close_added told = (close_adds (map zeroed_record (noted t)) (is_some t.turn) (limit_from t.limit) more told.0 told.1).1
 
-    pub end_others : (nested ≡ 0 → ⊥) → Is (Err OutOfTurn) (notebook_meaning rs t limit) (end_step (notebook_meaning rs t limit))
-    end_others some =
-        let lv = level_is in
-        let fails : eqb (level (map zeroed_record rs)) 0 ≡ false = grind (arith, nat_tests) in
-        rw (on, fails) (refl, refl)
-
-    pub end_done : nested ≡ 0 → Is (Ok tt) (notebook_meaning rs false limit) (end_step (notebook_meaning rs t limit))
-    end_done none =
-        let lv = level_is in
-        let passes : eqb (level (map zeroed_record rs)) 0 ≡ true = grind (arith, nat_tests) in
-        rw (on, passes, append-nil (map zeroed_record rs)) (refl, refl)
-
-    pub depth_is : Some nested ≡ depth_of (notebook_meaning rs t limit)
-    depth_is = let lv : level (map zeroed_record rs) - 0 ≡ nested = omega (arith, level_is) in rw (on, lv) refl
-
-pub nth_none : (rs : List Record) (i : ℕ) → length rs ≤ i → None ≡ slice_get (map zeroed_record rs) i
-nth_none rs i past = sym (slice_get_past (map zeroed_record rs) i (rw (length-map rs zeroed_record) past))
-
-pub nth_some : (rs : List Record) (i : ℕ) (r : Record) → i < length rs → r ≡ get_or rs i r → Some (zeroed_record r) ≡ slice_get (map zeroed_record rs) i
-nth_some rs i r within is =
-    let n : i < length (map zeroed_record rs) = rw (length-map rs zeroed_record) within in
-    sym (slice_get-get_or (map zeroed_record rs) i (zeroed_record r) n ∙ ap (λ x. Some x) (get_or-map zeroed_record rs i r (zeroed_record r) within ∙ ap zeroed_record (sym is)))
+  -- a turn that ends leaves the records
+  pub ended : Passes (end_checks (meaning_of t)) → Is (Ok tt) (notebook_meaning (noted t) false t.limit) (end_step (meaning_of t))
+  ended passed = rw (end_accepted (meaning_of t) passed, append-nil (map zeroed_record (noted t))) (refl, refl)

@@ -1,6 +1,6 @@
 -- What a notebook means, and what holds of one.
 use Rattle.std.specs.Prelude.{◌≡◌, ℕ, ◌+◌, ◌≤◌, Bool, List, map, length, Some, None, Option}
-use Rattle.record.specs.declared.Record.{Record}
+use Rattle.record.specs.Records.{Record}
 use Rattle.record.specs.Zero.{zeroed_record}
 use Rattle.sink.specs.Script.{opens, closes}
 use Rattle.sink.specs.Meaning.{Meaning, Limit, limit_of, minus_one, most_places, unlayered}
@@ -17,7 +17,6 @@ allowance None = 0
 abbrev pub notebook_meaning : List Record → Bool → Option ℕ → Meaning
 notebook_meaning rs t limit = unlayered (map zeroed_record rs) t (limit_from limit)
 
--- the records and the closes that are still to come find their places, within the memory
-abbrev pub Sound : List Record → ℕ → Option ℕ → ℕ → Type 0
-Sound rs cap limit nested =
-    (length rs + nested ≤ allowance limit) × (allowance limit ≤ cap) × (allowance limit ≤ most_places) × (nested + closes rs ≡ opens rs)
+-- the places find room within the memory
+abbrev pub Sound : ℕ → Option ℕ → Type 0
+Sound cap limit = (allowance limit ≤ cap) × (allowance limit ≤ most_places)

@@ -1,8 +1,8 @@
 -- Links that agree with the parents give the children, and levels are depths.
-use Rattle.std.proofs.Common.{◌≡◌, ℕ, zero, suc, ◌+◌, ◌-◌, ◌<◌, ◌≤◌, Bool, true, false, cond, not, eqb, ltb, List, [], ◌∷◌, length, Some, None, filter, Option, sym, refl, ap, ◌∙◌, subst, inl, inr, arith}
+use Rattle.std.proofs.Common.{◌≡◌, ℕ, zero, suc, ◌+◌, ◌-◌, ◌<◌, ◌≤◌, eqb, ltb, List, [], ◌∷◌, length, is_some, Some, None, filter, Option, sym, refl, ap, ◌∙◌, subst, inl, inr, arith}
 use mathlib.Core.Path.{fun_ext}
 use Rattle.std.specs.List.{range_with_len, slice_get}
-use Rattle.std.proofs.lemmas.Bool.{true≢false, cases_eq, cases_lt, cond-true, cond-false, and_from, and_left, eq-eqb, ne_eqb, lt-ltb, le-ltb}
+use Rattle.std.proofs.lemmas.Bool.{cases_eq, cases_lt, cond-true, cond-false, and_from, eq-eqb, ne_eqb, lt-ltb}
 use Rattle.std.proofs.lemmas.List.{get_or_past}
 use Rattle.svgtree.specs.declared.node.Node.{Node}
 use Rattle.svgtree.specs.declared.document.Document.{Document}
@@ -10,84 +10,48 @@ use Rattle.svgtree.specs.Model.{Item, Model, item, count, children, later_siblin
 use Rattle.svgtree.specs.Steps.{nonempty}
 use Rattle.svgtree.specs.Memory.{nodes_of, model_of, no_node, node_at, link_within, last_link}
 use Rattle.svgtree.specs.Links.{Next, Last, Ties, Linked, onward, head, chain, linked_children}
+use Rattle.svgtree.proofs.Numbers.{none_kept, skip, first_kept, some_kept}
 use Rattle.svgtree.proofs.Reading.{nth_none, found_there, model_count, model_item, node_used}
-
--- NUMBERS THAT PASS A TEST
-
--- where the first g fail, the others are left
-skip : (test : ℕ → Bool) (g f a : ℕ) → ((j : ℕ) → a ≤ j → j < a + g → test j ≡ false) → filter test (range_with_len a (g + f)) ≡ filter test (range_with_len (a + g) f)
-skip test zero f a none =
-    let e : 0 + f ≡ f = omega arith in
-    let z : a + 0 ≡ a = omega arith in
-    rw (e, z)
-skip test (suc g) f a none =
-    let e : suc g + f ≡ suc (g + f) = omega arith in
-    let z : a + suc g ≡ (a + 1) + g = omega arith in
-    rw (e, z) (cond-false _ _ _ (none a (omega arith) (omega arith)) ∙ skip test g f (a + 1) (λ j h l. none j (omega arith) (omega arith)))
-
-pub none_kept : (test : ℕ → Bool) (n a : ℕ) → ((j : ℕ) → a ≤ j → j < a + n → test j ≡ false) → filter test (range_with_len a n) ≡ []
-none_kept test zero a none = refl
-none_kept test (suc n) a none = cond-false _ _ _ (none a (omega arith) (omega arith)) ∙ none_kept test n (a + 1) (λ j h l. none j (omega arith) (omega arith))
-
--- the first that passes comes first
-first_kept : (test : ℕ → Bool) (n a k : ℕ) → a ≤ k → k < a + n → ((j : ℕ) → a ≤ j → j < k → test j ≡ false) → test k ≡ true →
-    filter test (range_with_len a n) ≡ k ∷ filter test (range_with_len (k + 1) (n - (k + 1 - a)))
-first_kept test n a k h l none passes =
-    let e : n ≡ (k - a) + suc (n - (k + 1 - a)) = omega arith in
-    let z : a + (k - a) ≡ k = omega arith in
-    ap (λ (m : ℕ). filter test (range_with_len a m)) e
-    ∙ skip test (k - a) (suc (n - (k + 1 - a))) a (λ j i o. none j i (omega arith))
-    ∙ ap (λ (b : ℕ). filter test (range_with_len b (suc (n - (k + 1 - a))))) z
-    ∙ cond-true _ _ _ passes
-
-nonempty_cond : (t : Bool) (k : ℕ) (ks : List ℕ) → (t ≡ false → nonempty ks ≡ true) → nonempty (cond t (k ∷ ks) ks) ≡ true
-nonempty_cond true k ks later = refl
-nonempty_cond false k ks later = later refl
-
-some_kept : (test : ℕ → Bool) (n a k : ℕ) → a ≤ k → k < a + n → test k ≡ true → nonempty (filter test (range_with_len a n)) ≡ true
-some_kept test zero a k h l passes = absurd (omega arith)
-some_kept test (suc n) a k h l passes =
-    nonempty_cond (test a) a (filter test (range_with_len (a + 1) n))
-    (λ fails.
-    elim (cases_eq a k) [
-      | inl same ↦ absurd (true≢false (sym passes ∙ ap test (sym same) ∙ fails))
-      | inr other ↦ some_kept test n (a + 1) k (omega arith) (omega arith) passes
-    ])
 
 -- FOLLOWING
 
-module _ (n : ℕ) (par lev first last next : ℕ → ℕ) (t : Ties n par lev first last next) where
+module _ (n : ℕ) (par lev : ℕ → ℕ) (first last next : ℕ → Option ℕ) (t : Ties n par lev first last next) where
   -- those after b whose parent is p
   abbrev after : ℕ → ℕ → List ℕ
   after p b = filter (λ j. eqb (par j) p) (range_with_len (b + 1) (n - (b + 1)))
 
+  -- where no number after b has the parent p, none is kept
+  no_later : (p b : ℕ) → Next n par p b None → after p b ≡ []
+  no_later p b none = none_kept (λ j. eqb (par j) p) (n - (b + 1)) (b + 1) (λ j i o. ne_eqb (par j) p (none j (omega arith) (omega arith)))
+
+  -- and where k is the first that has, it is kept first
+  next_first : (p b k : ℕ) → Next n par p b (Some k) → after p b ≡ k ∷ after p k
+  next_first p b k x =
+      let bk : b < k = x.0 in
+      let kn : k < n = x.1 in
+      let e : n - (b + 1) - (k + 1 - (b + 1)) ≡ n - (k + 1) = omega arith in
+      first_kept (λ j. eqb (par j) p) (n - (b + 1)) (b + 1) k (omega arith) (omega arith) (λ j i o. ne_eqb (par j) p (x.3 j (omega arith) o)) (eq-eqb (par k) p x.2)
+      ∙ ap (λ (m : ℕ). k ∷ filter (λ j. eqb (par j) p) (range_with_len (k + 1) m)) e
+
   -- a chain from b on gives the children after b
-  follow : (f p b k : ℕ) → n ≤ f + b → b < n → Next n par p b k → chain f n next b k ≡ after p b
+  follow : (f p b : ℕ) (o : Option ℕ) → n ≤ f + b → b < n → Next n par p b o → chain f n next b o ≡ after p b
   unfolding chain
-  follow zero p b k h l x = absurd (omega arith)
-  follow (suc f) p b k h l (inl x) =
-      cond-false _ _ _ (and_left (ltb b k) (ltb k n) (le-ltb b k (omega (arith, x.0))))
-      ∙ sym (none_kept (λ j. eqb (par j) p) (n - (b + 1)) (b + 1) (λ j i o. ne_eqb (par j) p (x.1 j (omega arith) (omega arith))))
-  follow (suc f) p b k h l (inr x) =
+  follow zero p b o h l x = absurd (omega arith)
+  follow (suc f) p b None h l x = sym (no_later p b x)
+  follow (suc f) p b (Some k) h l x =
       let bk : b < k = x.0 in
       let kn : k < n = x.1 in
       let P : ℕ → Type 0 = λ q. Next n par q k (next k) in
-      let e : n - (b + 1) - (k + 1 - (b + 1)) ≡ n - (k + 1) = omega arith in
       cond-true _ _ _ (and_from (ltb b k) (ltb k n) (lt-ltb b k bk) (lt-ltb k n kn))
       ∙ ap (λ (ks : List ℕ). k ∷ ks) (follow f p k (next k) (omega arith) kn (subst P x.2 (t.nexts k (omega arith) kn)))
-      ∙ sym (first_kept (λ j. eqb (par j) p) (n - (b + 1)) (b + 1) k (omega arith) (omega arith) (λ j i o. ne_eqb (par j) p (x.3 j (omega arith) o)) (eq-eqb (par k) p x.2)
-      ∙ ap (λ (m : ℕ). k ∷ filter (λ j. eqb (par j) p) (range_with_len (k + 1) m)) e)
+      ∙ sym (next_first p b k x)
 
   -- the link from b leads to the first of them
-  onward_after : (p b k : ℕ) → b < n → Next n par p b k → onward n b k ≡ head (after p b)
-  onward_after p b k l (inl x) =
-      cond-false _ _ _ (and_left (ltb b k) (ltb k n) (le-ltb b k (omega (arith, x.0))))
-      ∙ sym (ap head (none_kept (λ j. eqb (par j) p) (n - (b + 1)) (b + 1) (λ j i o. ne_eqb (par j) p (x.1 j (omega arith) (omega arith)))))
-  onward_after p b k l (inr x) =
-      let bk : b < k = x.0 in
-      let kn : k < n = x.1 in
-      cond-true _ _ _ (and_from (ltb b k) (ltb k n) (lt-ltb b k bk) (lt-ltb k n kn))
-      ∙ sym (ap head (first_kept (λ j. eqb (par j) p) (n - (b + 1)) (b + 1) k (omega arith) (omega arith) (λ j i o. ne_eqb (par j) p (x.3 j (omega arith) o)) (eq-eqb (par k) p x.2)))
+  onward_after : (p b : ℕ) (o : Option ℕ) → Next n par p b o → onward n b o ≡ head (after p b)
+  onward_after p b None x = sym (ap head (no_later p b x))
+  onward_after p b (Some k) x =
+      cond-true _ _ _ (and_from (ltb b k) (ltb k n) (lt-ltb b k x.0) (lt-ltb k n x.1))
+      ∙ sym (ap head (next_first p b k x))
 
   -- no child comes before its parent
   all_after : (p : ℕ) → p < n → filter (λ j. eqb (par j) p) (range_with_len 1 (n - 1)) ≡ after p p
@@ -103,15 +67,12 @@ module _ (n : ℕ) (par lev first last next : ℕ → ℕ) (t : Ties n par lev f
   none_past p h = none_kept (λ j. eqb (par j) p) (n - 1) 1 (λ j i o. ne_eqb (par j) p (λ q. omega (arith, t.before j (omega arith) (omega arith))))
 
   -- a last child, and only it, tells that there are children
-  childless : (p l : ℕ) → p < n → Last n par p l → nonempty (filter (λ j. eqb (par j) p) (range_with_len 1 (n - 1))) ≡ not (eqb l 0)
-  childless p l h (inl x) =
-      ap nonempty (all_after p h ∙ none_kept (λ j. eqb (par j) p) (n - (p + 1)) (p + 1) (λ j i o. ne_eqb (par j) p (x.1 j (omega arith) (omega arith))))
-      ∙ sym (ap not (eq-eqb l 0 x.0))
-  childless p l h (inr x) =
+  childless : (p : ℕ) (o : Option ℕ) → p < n → Last n par p o → nonempty (filter (λ j. eqb (par j) p) (range_with_len 1 (n - 1))) ≡ is_some o
+  childless p None h x = ap nonempty (all_after p h ∙ no_later p p x)
+  childless p (Some l) h x =
       let pl : p < l = x.0 in
       let ln : l < n = x.1 in
       some_kept (λ j. eqb (par j) p) (n - 1) 1 l (omega arith) (omega arith) (eq-eqb (par l) p x.2)
-      ∙ sym (ap not (ne_eqb l 0 (λ z. omega arith)))
 
   -- the levels are those that the way up gives
   climbs : (m : Model) → ((j : ℕ) → (item m j).parent ≡ par j) → (f j : ℕ) → j ≤ f → j < n → lev j ≡ climb m f j
@@ -126,6 +87,11 @@ module _ (n : ℕ) (par lev first last next : ℕ → ℕ) (t : Ties n par lev f
             ∙ ap (λ (k : ℕ). k + 1) (climbs m same f (par j) (omega arith) (omega arith) ∙ ap (λ (k : ℕ). climb m f k) (sym (same j)))
             ∙ sym (cond-false _ _ _ (ne_eqb j 0 e))
       ]
+
+-- a last child lies among the nodes in use, so that its link is read as it stands
+pub last_read : (n : ℕ) (par : ℕ → ℕ) (p : ℕ) (o : Option ℕ) → Last n par p o → link_within n o ≡ o
+last_read n par p None x = refl
+last_read n par p (Some l) x = cond-true _ _ _ (lt-ltb l n x.1)
 
 -- OF A DOCUMENT IN MEMORY
 
@@ -151,39 +117,28 @@ module _ (d : Document) (ns : List Node) where
       ∙ sym (all_after (length (nodes_of d ns)) _ _ _ _ _ linked p inside)
       ∙ sym (by_parents p)
 
-  -- a last child lies among the nodes in use, so that its link is read as it stands
-  pub last_there : (p : ℕ) → Linked (nodes_of d ns) → p < length (nodes_of d ns) → last_link d ns p ≡ (node_at (nodes_of d ns) p).last_child
-  unfolding Linked
-  last_there p linked inside =
-      ap (λ (n : Node). link_within (length (nodes_of d ns)) n.last_child) (sym (node_used d ns p inside))
-      ∙ cond-true _ _ _ (lt-ltb (node_at (nodes_of d ns) p).last_child (length (nodes_of d ns)) (below (linked.lasts p inside)))
-    where
-      below : Last (length (nodes_of d ns)) (λ k. (node_at (nodes_of d ns) k).parent) p (node_at (nodes_of d ns) p).last_child → (node_at (nodes_of d ns) p).last_child < length (nodes_of d ns)
-      below (inl x) = omega (arith, x.0)
-      below (inr x) = x.1
-
-  pub child_there : (p : ℕ) → Linked (nodes_of d ns) → p < length (nodes_of d ns) → nonempty (children (model_of d ns) p) ≡ not (eqb (last_link d ns p) 0)
+  pub child_there : (p : ℕ) → Linked (nodes_of d ns) → p < length (nodes_of d ns) → nonempty (children (model_of d ns) p) ≡ is_some (last_link d ns p)
   unfolding Linked
   child_there p linked inside =
       ap nonempty (by_parents p)
       ∙ childless (length (nodes_of d ns)) _ _ _ _ _ linked p (node_at (nodes_of d ns) p).last_child inside (linked.lasts p inside)
-      ∙ sym (ap (λ (l : ℕ). not (eqb l 0)) (last_there p linked inside))
+      ∙ ap is_some (sym (last_read (length (nodes_of d ns)) (λ k. (node_at (nodes_of d ns) k).parent) p (node_at (nodes_of d ns) p).last_child (linked.lasts p inside)))
+      ∙ ap (λ (n : Node). is_some (link_within (length (nodes_of d ns)) n.last_child)) (node_used d ns p inside)
 
   -- THE LINKS AS THEY ARE FOLLOWED
 
   -- from past the nodes in use, none is
-  past_none : (n : ℕ) (link : Node → ℕ) → link no_node ≡ 0 → length (nodes_of d ns) ≤ n → None ≡ onward (length (nodes_of d ns)) n (link (node_at (nodes_of d ns) n))
+  past_none : (n : ℕ) (link : Node → Option ℕ) → link no_node ≡ None → length (nodes_of d ns) ≤ n → None ≡ onward (length (nodes_of d ns)) n (link (node_at (nodes_of d ns) n))
   past_none n link none past =
       sym (ap (λ (x : Node). onward (length (nodes_of d ns)) n (link x)) (get_or_past (nodes_of d ns) n no_node past)
-      ∙ ap (λ (k : ℕ). onward (length (nodes_of d ns)) n k) none
-      ∙ cond-false _ _ _ (and_left (ltb n 0) (ltb 0 (length (nodes_of d ns))) (le-ltb n 0 (omega arith))))
+      ∙ ap (λ (o : Option ℕ). onward (length (nodes_of d ns)) n o) none)
 
   pub first_there : (n : ℕ) → Linked (nodes_of d ns) → onward (length (nodes_of d ns)) n (node_at (nodes_of d ns) n).first_child ≡ head (children (model_of d ns) n)
   unfolding Linked
   first_there n linked =
       elim (cases_lt n (length (nodes_of d ns))) [
         | inl inside ↦
-            onward_after (length (nodes_of d ns)) _ _ _ _ _ linked n n (node_at (nodes_of d ns) n).first_child inside (linked.firsts n inside)
+            onward_after (length (nodes_of d ns)) _ _ _ _ _ linked n n (node_at (nodes_of d ns) n).first_child (linked.firsts n inside)
             ∙ sym (ap head (by_parents n ∙ all_after (length (nodes_of d ns)) _ _ _ _ _ linked n inside))
         | inr past ↦
             sym (past_none n (λ x. x.first_child) refl past)
@@ -202,7 +157,7 @@ module _ (d : Document) (ns : List Node) where
   next_there n linked other =
       elim (cases_lt n (length (nodes_of d ns))) [
         | inl inside ↦
-            onward_after (length (nodes_of d ns)) _ _ _ _ _ linked (node_at (nodes_of d ns) n).parent n (node_at (nodes_of d ns) n).next_sibling inside (linked.nexts n other inside)
+            onward_after (length (nodes_of d ns)) _ _ _ _ _ linked (node_at (nodes_of d ns) n).parent n (node_at (nodes_of d ns) n).next_sibling (linked.nexts n other inside)
             ∙ sym (ap head (siblings_by_parents n))
         | inr past ↦
             let none : length (nodes_of d ns) - (n + 1) ≡ 0 = omega arith in
@@ -212,12 +167,12 @@ module _ (d : Document) (ns : List Node) where
       ]
 
   -- what a read of the node gives, and its link
-  module _ (n : ℕ) (r : Option Node) (is : r ≡ slice_get (nodes_of d ns) n) where
-    pub not_read : (link : Node → ℕ) → link no_node ≡ 0 → r ≡ None → None ≡ onward (length (nodes_of d ns)) n (link (node_at (nodes_of d ns) n))
-    not_read link none missing = past_none n link none (nth_none (nodes_of d ns) n (λ x e. let z : ◌≡◌ {A = ℕ} 0 1 = cc in omega arith))
+  module _ (n : ℕ) (link : Node → Option ℕ) where
+    pub not_read : link no_node ≡ None → slice_get (nodes_of d ns) n ≡ None → None ≡ onward (length (nodes_of d ns)) n (link (node_at (nodes_of d ns) n))
+    not_read none missing = past_none n link none (nth_none (nodes_of d ns) n missing)
 
-    pub was_read : (link : Node → ℕ) (found : Node) (m : ℕ) (o : Option ℕ) → r ≡ Some found → m ≡ length (nodes_of d ns) → o ≡ onward m n (link found) →
+    pub was_read : (found : Node) (m : ℕ) (o : Option ℕ) → slice_get (nodes_of d ns) n ≡ Some found → m ≡ length (nodes_of d ns) → o ≡ onward m n (link found) →
         o ≡ onward (length (nodes_of d ns)) n (link (node_at (nodes_of d ns) n))
-    was_read link found m o there counted gave =
+    was_read found m o there counted gave =
         gave ∙ ap (λ (l : ℕ). onward l n (link found)) counted
-        ∙ ap (λ (x : Node). onward (length (nodes_of d ns)) n (link x)) (sym (found_there d ns n r found is there))
+        ∙ ap (λ (x : Node). onward (length (nodes_of d ns)) n (link x)) (sym (found_there d ns n found there))

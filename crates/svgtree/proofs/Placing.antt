@@ -1,14 +1,16 @@
 -- A node more, placed in memory and tied in.
-use Rattle.std.proofs.Common.{◌≡◌, ℕ, ◌+◌, ◌<◌, ◌≤◌, min, Bool, not, eqb, ltb, leb, ◌≢◌, ◌⊎◌, List, [], ◌∷◌, ◌++◌, map, length, take, set, Some, None, Ok, Err, Option, sym, refl, ap, ◌∙◌, subst, inl, inr, arith}
+use Rattle.std.proofs.Common.{◌≡◌, ℕ, ◌+◌, ◌<◌, min, Bool, not, ltb, leb, ◌≢◌, List, [], ◌∷◌, ◌++◌, map, length, get_or, take, set, is_some, Some, None, Ok, Err, Option, Result, sym, refl, ap, ◌∙◌, subst, inl, inr, arith}
 use Rattle.std.specs.List.{slice_get}
-use Rattle.std.proofs.lemmas.Bool.{cases_lt, cond-true, cond-false, cond_both, eq-eqb, ne_eqb, lt-ltb, le-ltb, ltb-true, leb-false, not-false}
-use Rattle.std.proofs.lemmas.List.{length-set, length-take-le, get_or-take, get_or-set_same, get_or-set_other, map-set, set-get_or, take-map, map_push, take_more_set}
+use Rattle.std.proofs.lemmas.Bool.{cond-true, cond-false, cases_lt, lt-ltb, le-ltb, ltb-true, leb-false, not-false}
+use Rattle.std.proofs.lemmas.List.{length-set, length-take-le, get_or-take, get_or-set_same, get_or-set_other, take-map, map_push, take_min, take_more_set}
+use Rattle.std.proofs.Math.ListN.{get_or-map}
+use Rattle.std.proofs.Math.Seq.{map-set_same}
+use Rattle.std.proofs.lemmas.Option.{none-some, cond_some}
 use Rattle.refusal.specs.Order.{first_of, unless}
 use Rattle.refusal.specs.declared.Refusal.{Refusal}
-use Rattle.refusal.specs.declared.Refusal.TheVariants.{UnknownNode, ChildNotAllowed, DocumentFull, TooDeep}
+use Rattle.refusal.specs.declared.Refusal.TheVariants.{ChildNotAllowed, DocumentFull, TooDeep}
 use Rattle.element.specs.declared.value.Kind.{Kind}
 use Rattle.list.specs.Bounded.{Appended}
-use Rattle.list.proofs.Bounded.{used_min}
 use Rattle.svgtree.specs.declared.node.Node.{Node}
 use Rattle.svgtree.specs.declared.document.Document.{Document}
 use Rattle.svgtree.specs.Limits.{max_nodes, max_levels}
@@ -18,91 +20,84 @@ use Rattle.svgtree.specs.Steps.{outcome, nonempty, add_checks}
 use Rattle.svgtree.specs.Memory.{item_of, nodes_of, model_of, no_node, node_at, fresh, link_within, with_first_child, with_last_child, with_next_sibling, behind_last, tied, last_link, place_refusal, placed}
 use Rattle.svgtree.specs.Links.{Last, Ties, Linked}
 use Rattle.svgtree.specs.Edits.{Added}
-use Rattle.svgtree.proofs.Reading.{passes, nth_none, found_inside, found_there, check_fails, check_passes, not_added, model_count, model_item, nodes_count, node_used}
+use Rattle.svgtree.proofs.Reading.{passes, was_refused, not_refused, found_inside, found_there, model_count, model_item, nodes_count, node_used}
 use Rattle.svgtree.proofs.Editing.{untouched}
-use Rattle.svgtree.proofs.Tying.{ties_more}
-use Rattle.svgtree.proofs.Following.{level_there, child_there}
+use Rattle.svgtree.proofs.Tying.{first_behind, ties_more}
+use Rattle.svgtree.proofs.Following.{last_read, level_there, child_there}
+
+-- A link that is read leads to a node in use.
+pub read_inside : (n : ℕ) (o : Option ℕ) (l : ℕ) → link_within n o ≡ Some l → l < n
+read_inside n None l is = absurd (none-some l is)
+read_inside n (Some k) l is = let both = cond_some (ltb k n) k l is in subst (λ (j : ℕ). j < n) both.1 (ltb-true k n both.0)
 
 -- WHAT TYING CHANGES
 
-pub tied_long : (xs : List Node) (p l m : ℕ) → length (tied xs p l m) ≡ length xs
-tied_long xs p l m =
-    length-set (behind_last xs p l m) p _
-    ∙ cond_both (eqb l 0) (set xs p (with_first_child (node_at xs p) m)) (set xs l (with_next_sibling (node_at xs l) m)) (λ ys. length ys ≡ length xs) (λ _. length-set xs p _) (λ _. length-set xs l _)
+behind_long : (xs : List Node) (p : ℕ) (o : Option ℕ) (m : ℕ) → length (behind_last xs p o m) ≡ length xs
+behind_long xs p None m = length-set xs p _
+behind_long xs p (Some l) m = length-set xs l _
 
--- what no link is a part of stays
-tied_kept : {Y : Type 0} (f : Node → Y) (xs : List Node) (p l m k : ℕ) →
+pub tied_long : (xs : List Node) (p : ℕ) (o : Option ℕ) (m : ℕ) → length (tied xs p o m) ≡ length xs
+tied_long xs p o m = length-set (behind_last xs p o m) p _ ∙ behind_long xs p o m
+
+-- what the first child and the next sibling are no part of stays
+behind_kept : {Y : Type 0} (f : Node → Y) (xs : List Node) (p : ℕ) (o : Option ℕ) (m : ℕ) →
+    ((n : Node) (i : ℕ) → f (with_first_child n i) ≡ f n) → ((n : Node) (i : ℕ) → f (with_next_sibling n i) ≡ f n) →
+    map f (behind_last xs p o m) ≡ map f xs
+behind_kept f xs p None m first next = map-set_same f xs p _ no_node (first _ m)
+behind_kept f xs p (Some l) m first next = map-set_same f xs l _ no_node (next _ m)
+
+-- and what the last child is no part of either
+tied_kept : {Y : Type 0} (f : Node → Y) (xs : List Node) (p : ℕ) (o : Option ℕ) (m : ℕ) →
     ((n : Node) (i : ℕ) → f (with_first_child n i) ≡ f n) → ((n : Node) (i : ℕ) → f (with_last_child n i) ≡ f n) → ((n : Node) (i : ℕ) → f (with_next_sibling n i) ≡ f n) →
-    f (node_at (tied xs p l m) k) ≡ f (node_at xs k)
-tied_kept f xs p l m k first last next =
-    untouched f (behind_last xs p l m) p _ k (last _ m)
-    ∙ cond_both (eqb l 0) (set xs p (with_first_child (node_at xs p) m)) (set xs l (with_next_sibling (node_at xs l) m)) (λ ys. f (node_at ys k) ≡ f (node_at xs k))
-    (λ _. untouched f xs p _ k (first _ m)) (λ _. untouched f xs l _ k (next _ m))
+    map f (tied xs p o m) ≡ map f xs
+tied_kept f xs p o m first last next = map-set_same f (behind_last xs p o m) p _ no_node (last _ m) ∙ behind_kept f xs p o m first next
 
-tied_parent : (xs : List Node) (p l m k : ℕ) → (node_at (tied xs p l m) k).parent ≡ (node_at xs k).parent
-tied_parent xs p l m k = tied_kept (λ n. n.parent) xs p l m k (λ n i. refl) (λ n i. refl) (λ n i. refl)
+-- of each node
+kept_at : {Y : Type 0} (f : Node → Y) (xs ys : List Node) (k : ℕ) → map f xs ≡ map f ys → f (node_at xs k) ≡ f (node_at ys k)
+kept_at {Y} f xs ys k e = sym (get_or-map f xs k no_node) ∙ ap (λ (zs : List Y). get_or zs k (f no_node)) e ∙ get_or-map f ys k no_node
 
-tied_level : (xs : List Node) (p l m k : ℕ) → (node_at (tied xs p l m) k).level ≡ (node_at xs k).level
-tied_level xs p l m k = tied_kept (λ n. n.level) xs p l m k (λ n i. refl) (λ n i. refl) (λ n i. refl)
+-- the first child of any other than p
+tied_first_same : (xs : List Node) (p : ℕ) (o : Option ℕ) (m k : ℕ) → k ≢ p → (node_at (tied xs p o m) k).first_child ≡ (node_at xs k).first_child
+tied_first_same xs p o m k other = untouched (λ n. n.first_child) (behind_last xs p o m) p _ k refl ∙ behind o
+  where
+    behind : (o : Option ℕ) → (node_at (behind_last xs p o m) k).first_child ≡ (node_at xs k).first_child
+    behind None = ap (λ (n : Node). n.first_child) (get_or-set_other xs p k _ no_node other)
+    behind (Some l) = untouched (λ n. n.first_child) xs l _ k refl
 
-write_items : (xs : List Node) (i : ℕ) (n : Node) → item_of n ≡ item_of (node_at xs i) → map item_of (set xs i n) ≡ map item_of xs
-write_items xs i n e =
-    map-set item_of xs i n ∙ ap (λ (y : Item). set (map item_of xs) i y) e ∙ sym (map-set item_of xs i (node_at xs i)) ∙ ap (λ (t : List Node). map item_of t) (set-get_or xs i no_node)
+tied_first_new : (xs : List Node) (p : ℕ) (o : Option ℕ) (m : ℕ) → p < length xs → (node_at (tied xs p o m) p).first_child ≡ first_behind o (node_at xs p).first_child m
+tied_first_new xs p o m inside = untouched (λ n. n.first_child) (behind_last xs p o m) p _ p refl ∙ behind o
+  where
+    behind : (o : Option ℕ) → (node_at (behind_last xs p o m) p).first_child ≡ first_behind o (node_at xs p).first_child m
+    behind None = ap (λ (n : Node). n.first_child) (get_or-set_same xs p _ no_node inside)
+    behind (Some l) = untouched (λ n. n.first_child) xs l _ p refl
 
-tied_items : (xs : List Node) (p l m : ℕ) → map item_of (tied xs p l m) ≡ map item_of xs
-tied_items xs p l m =
-    write_items (behind_last xs p l m) p (with_last_child (node_at (behind_last xs p l m) p) m) refl
-    ∙ cond_both (eqb l 0) (set xs p (with_first_child (node_at xs p) m)) (set xs l (with_next_sibling (node_at xs l) m)) (λ ys. map item_of ys ≡ map item_of xs)
-    (λ _. write_items xs p _ refl) (λ _. write_items xs l _ refl)
+tied_last_same : (xs : List Node) (p : ℕ) (o : Option ℕ) (m k : ℕ) → k ≢ p → (node_at (tied xs p o m) k).last_child ≡ (node_at xs k).last_child
+tied_last_same xs p o m k other =
+    ap (λ (n : Node). n.last_child) (get_or-set_other (behind_last xs p o m) p k _ no_node other)
+    ∙ kept_at (λ n. n.last_child) (behind_last xs p o m) xs k (behind_kept (λ n. n.last_child) xs p o m (λ n i. refl) (λ n i. refl))
 
-zeroed : (xs : List Node) (p l m : ℕ) → l ≡ 0 → behind_last xs p l m ≡ set xs p (with_first_child (node_at xs p) m)
-zeroed xs p l m e = cond-true _ _ _ (eq-eqb l 0 e)
+tied_last_new : (xs : List Node) (p : ℕ) (o : Option ℕ) (m : ℕ) → p < length xs → (node_at (tied xs p o m) p).last_child ≡ Some m
+tied_last_new xs p o m inside =
+    ap (λ (n : Node). n.last_child)
+    (get_or-set_same (behind_last xs p o m) p (with_last_child (node_at (behind_last xs p o m) p) m) no_node (omega (arith, behind_long xs p o m)))
 
-rest : (xs : List Node) (p l m : ℕ) → 0 < l → behind_last xs p l m ≡ set xs l (with_next_sibling (node_at xs l) m)
-rest xs p l m h = cond-false _ _ _ (ne_eqb l 0 (λ e. omega arith))
+-- the next sibling of any other than the last child
+tied_next_same : (xs : List Node) (p : ℕ) (o : Option ℕ) (m k : ℕ) → o ≢ Some k → (node_at (tied xs p o m) k).next_sibling ≡ (node_at xs k).next_sibling
+tied_next_same xs p o m k other = untouched (λ n. n.next_sibling) (behind_last xs p o m) p _ k refl ∙ behind o other
+  where
+    behind : (o : Option ℕ) → o ≢ Some k → (node_at (behind_last xs p o m) k).next_sibling ≡ (node_at xs k).next_sibling
+    behind None apart = untouched (λ n. n.next_sibling) xs p _ k refl
+    behind (Some l) apart = ap (λ (n : Node). n.next_sibling) (get_or-set_other xs l k _ no_node (λ e. apart (ap Some (sym e))))
 
-tied_first_same : (xs : List Node) (p l m k : ℕ) → (k ≢ p) ⊎ (0 < l) → (node_at (tied xs p l m) k).first_child ≡ (node_at xs k).first_child
-tied_first_same xs p l m k h =
-    untouched (λ n. n.first_child) (behind_last xs p l m) p _ k refl ∙
-    elim (cases_lt 0 l) [
-      | inl z ↦ ap (λ (t : List Node). (node_at t k).first_child) (rest xs p l m z) ∙ untouched (λ n. n.first_child) xs l _ k refl
-      | inr z ↦ elim h [
-        | inl ne ↦ ap (λ (t : List Node). (node_at t k).first_child) (zeroed xs p l m (omega arith)) ∙ ap (λ (n : Node). n.first_child) (get_or-set_other xs p k _ no_node ne)
-        | inr b ↦ absurd (omega arith)
-      ]
-    ]
-
-tied_first_new : (xs : List Node) (p l m : ℕ) → p < length xs → l ≡ 0 → (node_at (tied xs p l m) p).first_child ≡ m
-tied_first_new xs p l m h z =
-    untouched (λ n. n.first_child) (behind_last xs p l m) p _ p refl ∙ ap (λ (t : List Node). (node_at t p).first_child) (zeroed xs p l m z) ∙ ap (λ (n : Node). n.first_child) (get_or-set_same xs p _ no_node h)
-
-tied_last_same : (xs : List Node) (p l m k : ℕ) → k ≢ p → (node_at (tied xs p l m) k).last_child ≡ (node_at xs k).last_child
-tied_last_same xs p l m k h =
-    ap (λ (n : Node). n.last_child) (get_or-set_other (behind_last xs p l m) p k _ no_node h)
-    ∙ cond_both (eqb l 0) (set xs p (with_first_child (node_at xs p) m)) (set xs l (with_next_sibling (node_at xs l) m)) (λ ys. (node_at ys k).last_child ≡ (node_at xs k).last_child) (λ _. untouched (λ n. n.last_child) xs p _ k refl) (λ _. untouched (λ n. n.last_child) xs l _ k refl)
-
-tied_last_new : (xs : List Node) (p l m : ℕ) → p < length xs → (node_at (tied xs p l m) p).last_child ≡ m
-tied_last_new xs p l m h =
-    let e : length (behind_last xs p l m) ≡ length xs = sym (length-set (behind_last xs p l m) p (with_last_child (node_at (behind_last xs p l m) p) m)) ∙ tied_long xs p l m in
-    ap (λ (n : Node). n.last_child) (get_or-set_same (behind_last xs p l m) p (with_last_child (node_at (behind_last xs p l m) p) m) no_node (omega arith))
-
-tied_next_same : (xs : List Node) (p l m k : ℕ) → (k ≢ l) ⊎ (l ≡ 0) → (node_at (tied xs p l m) k).next_sibling ≡ (node_at xs k).next_sibling
-tied_next_same xs p l m k (inr e) =
-    untouched (λ n. n.next_sibling) (behind_last xs p l m) p _ k refl
-    ∙ ap (λ (t : List Node). (node_at t k).next_sibling) (zeroed xs p l m e) ∙ untouched (λ n. n.next_sibling) xs p _ k refl
-tied_next_same xs p l m k (inl h) =
-    untouched (λ n. n.next_sibling) (behind_last xs p l m) p _ k refl
-    ∙ cond_both (eqb l 0) (set xs p (with_first_child (node_at xs p) m)) (set xs l (with_next_sibling (node_at xs l) m)) (λ ys. (node_at ys k).next_sibling ≡ (node_at xs k).next_sibling) (λ _. untouched (λ n. n.next_sibling) xs p _ k refl) (λ _. ap (λ (n : Node). n.next_sibling) (get_or-set_other xs l k _ no_node h))
-
-tied_next_new : (xs : List Node) (p l m : ℕ) → l < length xs → 0 < l → (node_at (tied xs p l m) l).next_sibling ≡ m
-tied_next_new xs p l m h z =
-    untouched (λ n. n.next_sibling) (behind_last xs p l m) p _ l refl ∙ ap (λ (t : List Node). (node_at t l).next_sibling) (rest xs p l m z) ∙ ap (λ (n : Node). n.next_sibling) (get_or-set_same xs l _ no_node h)
+tied_next_new : (xs : List Node) (p l m : ℕ) → l < length xs → (node_at (tied xs p (Some l) m) l).next_sibling ≡ Some m
+tied_next_new xs p l m inside =
+    untouched (λ n. n.next_sibling) (behind_last xs p (Some l) m) p _ l refl ∙ ap (λ (n : Node). n.next_sibling) (get_or-set_same xs l _ no_node inside)
 
 -- links stay links
-linked_more : (ns : List Node) (n p l : ℕ) (kind : Kind) → p < n → n < length ns → l ≡ link_within n (node_at ns p).last_child →
-    Linked (take n ns) → Linked (take (n + 1) (tied (set ns n (fresh kind p ((node_at ns p).level + 1))) p l n))
+linked_more : (ns : List Node) (n p : ℕ) (o : Option ℕ) (kind : Kind) → p < n → n < length ns → o ≡ link_within n (node_at ns p).last_child →
+    Linked (take n ns) → Linked (take (n + 1) (tied (set ns n (fresh kind p ((node_at ns p).level + 1))) p o n))
 unfolding Linked
-linked_more ns n p l kind pn nl el h =
+linked_more ns n p o kind pn nl el h =
     subst Goal (sym long)
     (ties_more n (par os) (lev os) (first os) (last os) (next os) (par ms) (lev ms) (first ms) (last ms) (next ms) p old pn par_s par_n lev_s lev_n first_s first_p first_n last_s last_p last_n next_s next_l next_n)
   where
@@ -116,7 +111,7 @@ linked_more ns n p l kind pn nl el h =
     xs = set ns n f
 
     ys : List Node
-    ys = tied xs p l n
+    ys = tied xs p o n
 
     ms : List Node
     ms = take (n + 1) ys
@@ -127,13 +122,13 @@ linked_more ns n p l kind pn nl el h =
     lev : List Node → ℕ → ℕ
     lev t k = (node_at t k).level
 
-    first : List Node → ℕ → ℕ
+    first : List Node → ℕ → Option ℕ
     first t k = (node_at t k).first_child
 
-    last : List Node → ℕ → ℕ
+    last : List Node → ℕ → Option ℕ
     last t k = (node_at t k).last_child
 
-    next : List Node → ℕ → ℕ
+    next : List Node → ℕ → Option ℕ
     next t k = (node_at t k).next_sibling
 
     Goal : ℕ → Type 0
@@ -146,7 +141,7 @@ linked_more ns n p l kind pn nl el h =
     wide = length-set ns n f
 
     long : length ms ≡ n + 1
-    long = length-take-le (n + 1) ys (omega (arith, tied_long xs p l n, wide))
+    long = length-take-le (n + 1) ys (omega (arith, tied_long xs p o n, wide))
 
     old : Old n
     old = subst Old (length-take-le n ns (omega arith)) h
@@ -161,71 +156,73 @@ linked_more ns n p l kind pn nl el h =
     here : node_at xs n ≡ f
     here = get_or-set_same ns n f no_node nl
 
-    -- the last child is a node
-    below : Last n (par os) p (last os p) → last os p < n
-    below (inl x) = omega (arith, x.0)
-    below (inr x) = x.1
-
-    same : l ≡ last os p
+    -- the last child is a node, so that its link is read as it stands
+    same : o ≡ last os p
     same =
         let e : last os p ≡ (node_at ns p).last_child = ap (λ (t : Node). t.last_child) (get_or-take n ns p no_node pn) in
-        el ∙ cond-true _ _ _ (lt-ltb (node_at ns p).last_child n (omega (arith, below (old.lasts p pn)))) ∙ sym e
+        el ∙ ap (λ (q : Option ℕ). link_within n q) (sym e) ∙ last_read n (par os) p (last os p) (old.lasts p pn)
+
+    last_is : (l : ℕ) → last os p ≡ Some l → Last n (par os) p (Some l)
+    last_is l e = subst (λ (q : Option ℕ). Last n (par os) p q) e (old.lasts p pn)
+
+    -- what tying lets be is the same of a node of the new list and of the old one, and of the new node
+    still : {Y : Type 0} (g : Node → Y) (k : ℕ) → k < n → g (node_at ys k) ≡ g (node_at xs k) → g (node_at ms k) ≡ g (node_at os k)
+    still g k i e = ap g (new_at k (omega arith)) ∙ e ∙ ap g (old_at k i)
+
+    newly : {Y : Type 0} (g : Node → Y) → g (node_at ys n) ≡ g (node_at xs n) → g (node_at ms n) ≡ g f
+    newly g e = ap g (new_at n (omega arith)) ∙ e ∙ ap g here
+
+    lev_kept : (k : ℕ) → lev ys k ≡ lev xs k
+    lev_kept k = kept_at (λ t. t.level) ys xs k (tied_kept (λ t. t.level) xs p o n (λ t i. refl) (λ t i. refl) (λ t i. refl))
+
+    par_kept : (k : ℕ) → par ys k ≡ par xs k
+    par_kept k = kept_at (λ t. t.parent) ys xs k (tied_kept (λ t. t.parent) xs p o n (λ t i. refl) (λ t i. refl) (λ t i. refl))
 
     lev_s : (j : ℕ) → j < n → lev ms j ≡ lev os j
-    lev_s j i = ap (λ (t : Node). t.level) (new_at j (omega arith)) ∙ tied_level xs p l n j ∙ ap (λ (t : Node). t.level) (old_at j i)
+    lev_s j i = still (λ t. t.level) j i (lev_kept j)
 
     lev_n : lev ms n ≡ lev os p + 1
-    lev_n =
-        ap (λ (t : Node). t.level) (new_at n (omega arith)) ∙ tied_level xs p l n n ∙ ap (λ (t : Node). t.level) here
-        ∙ ap (λ (t : Node). t.level + 1) (sym (get_or-take n ns p no_node pn))
+    lev_n = newly (λ t. t.level) (lev_kept n) ∙ ap (λ (t : Node). t.level + 1) (sym (get_or-take n ns p no_node pn))
 
     par_s : (j : ℕ) → j < n → par ms j ≡ par os j
-    par_s j i = ap (λ (t : Node). t.parent) (new_at j (omega arith)) ∙ tied_parent xs p l n j ∙ ap (λ (t : Node). t.parent) (old_at j i)
+    par_s j i = still (λ t. t.parent) j i (par_kept j)
 
     par_n : par ms n ≡ p
-    par_n = ap (λ (t : Node). t.parent) (new_at n (omega arith)) ∙ tied_parent xs p l n n ∙ ap (λ (t : Node). t.parent) here
+    par_n = newly (λ t. t.parent) (par_kept n)
 
-    first_s : (k : ℕ) → k < n → (k ≢ p) ⊎ (0 < last os p) → first ms k ≡ first os k
-    first_s k i (inl d) = ap (λ (t : Node). t.first_child) (new_at k (omega arith)) ∙ tied_first_same xs p l n k (inl d) ∙ ap (λ (t : Node). t.first_child) (old_at k i)
-    first_s k i (inr d) = ap (λ (t : Node). t.first_child) (new_at k (omega arith)) ∙ tied_first_same xs p l n k (inr (omega (arith, same))) ∙ ap (λ (t : Node). t.first_child) (old_at k i)
+    first_s : (k : ℕ) → k < n → k ≢ p → first ms k ≡ first os k
+    first_s k i d = still (λ t. t.first_child) k i (tied_first_same xs p o n k d)
 
-    first_p : last os p ≡ 0 → first ms p ≡ n
-    first_p z = ap (λ (t : Node). t.first_child) (new_at p (omega arith)) ∙ tied_first_new xs p l n (omega (arith, wide)) (same ∙ z)
+    first_p : first ms p ≡ first_behind (last os p) (first os p) n
+    first_p =
+        ap (λ (t : Node). t.first_child) (new_at p (omega arith)) ∙ tied_first_new xs p o n (omega (arith, wide))
+        ∙ ap (λ (q : Option ℕ). first_behind q (first xs p) n) same
+        ∙ ap (λ (t : Node). first_behind (last os p) t.first_child n) (old_at p pn)
 
-    first_n : first ms n ≡ 0
-    first_n = ap (λ (t : Node). t.first_child) (new_at n (omega arith)) ∙ tied_first_same xs p l n n (inl (omega arith)) ∙ ap (λ (t : Node). t.first_child) here
+    first_n : first ms n ≡ None
+    first_n = newly (λ t. t.first_child) (tied_first_same xs p o n n (omega arith))
 
     last_s : (k : ℕ) → k < n → k ≢ p → last ms k ≡ last os k
-    last_s k i d = ap (λ (t : Node). t.last_child) (new_at k (omega arith)) ∙ tied_last_same xs p l n k d ∙ ap (λ (t : Node). t.last_child) (old_at k i)
+    last_s k i d = still (λ t. t.last_child) k i (tied_last_same xs p o n k d)
 
-    last_p : last ms p ≡ n
-    last_p = ap (λ (t : Node). t.last_child) (new_at p (omega arith)) ∙ tied_last_new xs p l n (omega (arith, wide))
+    last_p : last ms p ≡ Some n
+    last_p = ap (λ (t : Node). t.last_child) (new_at p (omega arith)) ∙ tied_last_new xs p o n (omega (arith, wide))
 
-    last_n : last ms n ≡ 0
-    last_n = ap (λ (t : Node). t.last_child) (new_at n (omega arith)) ∙ tied_last_same xs p l n n (omega arith) ∙ ap (λ (t : Node). t.last_child) here
+    last_n : last ms n ≡ None
+    last_n = newly (λ t. t.last_child) (tied_last_same xs p o n n (omega arith))
 
-    next_s : (k : ℕ) → k < n → (k ≢ last os p) ⊎ (last os p ≡ 0) → next ms k ≡ next os k
-    next_s k i (inl d) = ap (λ (t : Node). t.next_sibling) (new_at k (omega arith)) ∙ tied_next_same xs p l n k (inl (λ e. d (e ∙ same))) ∙ ap (λ (t : Node). t.next_sibling) (old_at k i)
-    next_s k i (inr d) = ap (λ (t : Node). t.next_sibling) (new_at k (omega arith)) ∙ tied_next_same xs p l n k (inr (same ∙ d)) ∙ ap (λ (t : Node). t.next_sibling) (old_at k i)
+    next_s : (k : ℕ) → k < n → last os p ≢ Some k → next ms k ≡ next os k
+    next_s k i d = still (λ t. t.next_sibling) k i (tied_next_same xs p o n k (λ e. d (sym same ∙ e)))
 
-    next_l : 0 < last os p → next ms (last os p) ≡ n
-    next_l z =
-        let b : last os p < n = below (old.lasts p pn) in
-        ap (λ (t : Node). t.next_sibling) (new_at (last os p) (omega arith)) ∙ ap (λ (k : ℕ). (node_at ys k).next_sibling) (sym same) ∙ tied_next_new xs p l n (omega (arith, wide, same)) (omega (arith, same))
+    next_l : (l : ℕ) → last os p ≡ Some l → next ms l ≡ Some n
+    next_l l e =
+        let b : l < n = (last_is l e).1 in
+        ap (λ (t : Node). t.next_sibling) (new_at l (omega arith)) ∙ ap (λ (q : Option ℕ). next (tied xs p q n) l) (same ∙ e) ∙ tied_next_new xs p l n (omega (arith, wide))
 
-    next_n : next ms n ≡ 0
-    next_n = ap (λ (t : Node). t.next_sibling) (new_at n (omega arith)) ∙ tied_next_same xs p l n n (inl (omega (arith, same, below (old.lasts p pn)))) ∙ ap (λ (t : Node). t.next_sibling) here
+    next_n : next ms n ≡ None
+    next_n = newly (λ t. t.next_sibling) (tied_next_same xs p o n n (λ e. omega (arith, (last_is n (sym same ∙ e)).1)))
 
 -- ADDING
-
--- the checks of a parent that was added
-abbrev later_checks : ℕ → ℕ → Kind → Bool → ℕ → List (Bool × Refusal)
-later_checks lent n kind has_child lev =
-    (not (takes_child kind has_child), ChildNotAllowed) ∷ (leb (min lent max_nodes) n, DocumentFull) ∷ (leb max_levels lev, TooDeep) ∷ []
-
--- what the code checks of a parent that it found
-abbrev add_tests : Bool → Bool → Bool → List (Bool × Refusal)
-add_tests taken full deep = (not taken, ChildNotAllowed) ∷ (full, DocumentFull) ∷ (deep, TooDeep) ∷ []
 
 module _ (d : Document) (ns : List Node) (p : ℕ) where
   abbrev model_refusal : Option Refusal
@@ -233,37 +230,24 @@ module _ (d : Document) (ns : List Node) (p : ℕ) where
       first_of
       (add_checks (length ns) (count (model_of d ns)) (ltb p (count (model_of d ns))) (item (model_of d ns) p).element.kind (nonempty (children (model_of d ns) p)) (level (model_of d ns) p))
 
-  unknown : length (nodes_of d ns) ≤ p → place_refusal d ns p ≡ Some UnknownNode
-  unknown past =
-      check_fails (not (ltb p (length (nodes_of d ns)))) UnknownNode
-      (later_checks (length ns) (length (nodes_of d ns)) (node_at ns p).element.kind (not (eqb (last_link d ns p) 0)) (node_at ns p).level)
-      (ap not (le-ltb p (length (nodes_of d ns)) past))
-
   -- where a node may be placed, its parent was added and a place is free
   pub place_there : place_refusal d ns p ≡ None → (p < length (nodes_of d ns)) × (length (nodes_of d ns) < length ns)
   place_there accepted =
       let n : ℕ = length (nodes_of d ns) in
-      let first = passes (not (ltb p n)) UnknownNode (later_checks (length ns) n (node_at ns p).element.kind (not (eqb (last_link d ns p) 0)) (node_at ns p).level) accepted in
-      let second =
-      passes (not (takes_child (node_at ns p).element.kind (not (eqb (last_link d ns p) 0)))) ChildNotAllowed
-      ((leb (min (length ns) max_nodes) n, DocumentFull) ∷ (leb max_levels (node_at ns p).level, TooDeep) ∷ []) first.1 in
-      let third = passes (leb (min (length ns) max_nodes) n) DocumentFull ((leb max_levels (node_at ns p).level, TooDeep) ∷ []) second.1 in
-      (ltb-true p n (not-false (ltb p n) first.0), omega (arith, leb-false (min (length ns) max_nodes) n third.0))
+      let each = passes (add_checks (length ns) n (ltb p n) (node_at ns p).element.kind (is_some (last_link d ns p)) (node_at ns p).level) accepted in
+      (ltb-true p n (not-false (ltb p n) each.0), omega (arith, leb-false (min (length ns) max_nodes) n each.1.1.0))
 
   -- where memory is linked, what it has for the parent is what the document has
   same_refusal : Linked (nodes_of d ns) → model_refusal ≡ place_refusal d ns p
   same_refusal linked =
       elim (cases_lt p (length (nodes_of d ns))) [
         | inl inside ↦
-            ap (λ (n : ℕ). first_of (add_checks (length ns) n (ltb p n) (item (model_of d ns) p).element.kind (nonempty (children (model_of d ns) p)) (level (model_of d ns) p))) (model_count d ns)
-            ∙ ap (λ (k : Kind). first_of (add_checks (length ns) (length (nodes_of d ns)) (ltb p (length (nodes_of d ns))) k (nonempty (children (model_of d ns) p)) (level (model_of d ns) p)))
-            (ap (λ (it : Item). it.element.kind) (model_item d ns p ∙ ap item_of (node_used d ns p inside)))
-            ∙ ap (λ (b : Bool). first_of (add_checks (length ns) (length (nodes_of d ns)) (ltb p (length (nodes_of d ns))) (node_at ns p).element.kind b (level (model_of d ns) p))) (child_there d ns p linked inside)
-            ∙ ap (λ (l : ℕ). first_of (add_checks (length ns) (length (nodes_of d ns)) (ltb p (length (nodes_of d ns))) (node_at ns p).element.kind (not (eqb (last_link d ns p) 0)) l))
-            (sym (level_there d ns p linked inside) ∙ ap (λ (n : Node). n.level) (node_used d ns p inside))
+            let there : (item (model_of d ns) p).element.kind ≡ (node_at ns p).element.kind = ap (λ (it : Item). it.element.kind) (model_item d ns p ∙ ap item_of (node_used d ns p inside)) in
+            let deep : level (model_of d ns) p ≡ (node_at ns p).level = sym (level_there d ns p linked inside) ∙ ap (λ (n : Node). n.level) (node_used d ns p inside) in
+            rw (child_there d ns p linked inside, deep, there, model_count d ns) refl
         | inr past ↦
-            not_added d ns p (later_checks (length ns) (count (model_of d ns)) (item (model_of d ns) p).element.kind (nonempty (children (model_of d ns) p)) (level (model_of d ns) p)) past
-            ∙ sym (unknown past)
+            cond-true _ _ _ (ap not (le-ltb p (count (model_of d ns)) (omega (arith, model_count d ns))))
+            ∙ sym (cond-true _ _ _ (ap not (le-ltb p (length (nodes_of d ns)) past)))
       ]
 
   pub add_refused : (kind : Kind) (e : Refusal) → place_refusal d ns p ≡ Some e → Added d ns p kind (Err e) d ns
@@ -279,7 +263,7 @@ module _ (d : Document) (ns : List Node) (p : ℕ) where
 
   -- the count as it is read stands for the same nodes
   nodes_again : take (length (nodes_of d ns)) ns ≡ nodes_of d ns
-  nodes_again = ap (λ (n : ℕ). take n ns) (nodes_count d ns) ∙ used_min ns d.count
+  nodes_again = ap (λ (n : ℕ). take n ns) (nodes_count d ns) ∙ take_min d.count ns
 
   placed_model : (kind : Kind) → length (nodes_of d ns) < length ns → model_of (record { count = length (nodes_of d ns) + 1; options = d.options }) (placed d ns p kind) ≡ with_child (model_of d ns) p kind
   placed_model kind free =
@@ -287,7 +271,7 @@ module _ (d : Document) (ns : List Node) (p : ℕ) where
       let f : Node = fresh kind p ((node_at ns p).level + 1) in
       ap (λ (items : List Item). record { options = d.options; items = items })
       (sym (take-map item_of (n + 1) (placed d ns p kind))
-      ∙ ap (λ (t : List Item). take (n + 1) t) (tied_items (set ns n f) p (last_link d ns p) n)
+      ∙ ap (λ (t : List Item). take (n + 1) t) (tied_kept item_of (set ns n f) p (last_link d ns p) n (λ t i. refl) (λ t i. refl) (λ t i. refl))
       ∙ take-map item_of (n + 1) (set ns n f)
       ∙ ap (λ (t : List Node). map item_of t) (take_more_set ns n f free)
       ∙ map_push item_of (take n ns) f
@@ -308,51 +292,34 @@ module _ (d : Document) (ns : List Node) (p : ℕ) where
         links = λ linked. linked_more ns (length (nodes_of d ns)) p (last_link d ns p) kind inside free refl (subst Linked (sym nodes_again) linked);
       }
 
-  -- NO PARENT WAS READ
-  pub add_unknown : (r : Option Node) → r ≡ slice_get (nodes_of d ns) p → ((x : Node) → r ≡ Some x → ⊥) → (kind : Kind) → Added d ns p kind (Err UnknownNode) d ns
-  add_unknown r is none kind = add_refused kind UnknownNode (unknown (nth_none (nodes_of d ns) p (λ x e. none x (is ∙ e))))
-
   -- A PARENT WAS READ, and these are the values of the code
-  module _ (r : Option Node) (above : Node) (is : r ≡ slice_get (nodes_of d ns) p) (read : r ≡ Some above)
-      (n : ℕ) (listed : n ≡ length (nodes_of d ns)) (last : ℕ) (link : last ≡ link_within n above.last_child)
-      (taken : Bool) (takes : taken ≡ takes_child above.element.kind (not (eqb last 0))) (least : ℕ) (smaller : least ≡ min (length ns) max_nodes) where
-    pub parent_inside : p < n
-    parent_inside = omega (arith, found_inside d ns p r above is read)
-
+  module _ (above : Node) (read : slice_get (nodes_of d ns) p ≡ Some above) (n : ℕ) (listed : n ≡ length (nodes_of d ns)) (last : Option ℕ) (link : last ≡ link_within n above.last_child) where
     above_there : above ≡ node_at ns p
-    above_there = sym (found_there d ns p r above is read) ∙ node_used d ns p (found_inside d ns p r above is read)
+    above_there = sym (found_there d ns p above read) ∙ node_used d ns p (found_inside d ns p above read)
 
     link_there : last ≡ last_link d ns p
     link_there = link ∙ ap (λ (m : ℕ). link_within m above.last_child) listed ∙ ap (λ (x : Node). link_within (length (nodes_of d ns)) x.last_child) above_there
 
-    pub last_inside : last < n
-    last_inside =
-        let inside : p < n = parent_inside in
-        rw link (cond_both (ltb above.last_child n) above.last_child 0 (λ l. l < n) (λ e. ltb-true above.last_child n e) (λ e. omega arith))
+    abbrev tests : List (Bool × Refusal)
+    tests = (not (takes_child above.element.kind (is_some last)), ChildNotAllowed) ∷ (leb (min (length ns) max_nodes) n, DocumentFull) ∷ (leb max_levels above.level, TooDeep) ∷ []
 
-    known : place_refusal d ns p ≡ first_of (add_tests taken (leb least n) (leb max_levels above.level))
+    known : place_refusal d ns p ≡ first_of tests
     known =
-        check_passes (not (ltb p (length (nodes_of d ns)))) UnknownNode
-        (later_checks (length ns) (length (nodes_of d ns)) (node_at ns p).element.kind (not (eqb (last_link d ns p) 0)) (node_at ns p).level)
-        (ap not (lt-ltb p (length (nodes_of d ns)) (found_inside d ns p r above is read)))
-        ∙ sym (
-        ap (λ (b : Bool). first_of (add_tests b (leb least n) (leb max_levels above.level))) (takes ∙ ap (λ (l : ℕ). takes_child above.element.kind (not (eqb l 0))) link_there)
-        ∙ ap (λ (m : ℕ). first_of (add_tests (takes_child above.element.kind (not (eqb (last_link d ns p) 0))) (leb m n) (leb max_levels above.level))) smaller
-        ∙ ap (λ (m : ℕ). first_of (add_tests (takes_child above.element.kind (not (eqb (last_link d ns p) 0))) (leb (min (length ns) max_nodes) m) (leb max_levels above.level))) listed
-        ∙ ap (λ (x : Node). first_of (add_tests (takes_child x.element.kind (not (eqb (last_link d ns p) 0))) (leb (min (length ns) max_nodes) (length (nodes_of d ns))) (leb max_levels x.level))) above_there)
+        cond-false _ _ _ (ap not (lt-ltb p (length (nodes_of d ns)) (found_inside d ns p above read)))
+        ∙ sym (rw (link_there, listed, above_there) refl)
 
-    pub add_fails : (kind : Kind) (e : Refusal) → first_of (add_tests taken (leb least n) (leb max_levels above.level)) ≡ Some e → Added d ns p kind (Err e) d ns
-    add_fails kind e fails = add_refused kind e (known ∙ fails)
+    pub add_fails : (r : Result (Unit {0}) Refusal) → r ≡ unless (first_of tests) tt → (kind : Kind) (e : Refusal) → r ≡ Err e → Added d ns p kind (Err e) d ns
+    add_fails r answer kind e fails = add_refused kind e (known ∙ was_refused (first_of tests) tt e (sym answer ∙ fails))
 
-    pub add_passes : (kind : Kind) (f : Node) (more : ℕ) (vs ws : List Node) → first_of (add_tests taken (leb least n) (leb max_levels above.level)) ≡ None →
+    pub add_passes : (r : Result (Unit {0}) Refusal) → r ≡ unless (first_of tests) tt → (kind : Kind) (f : Node) (more : ℕ) (vs ws : List Node) → r ≡ Ok tt →
         f ≡ fresh kind p (above.level + 1) → Appended ns n f more vs → ws ≡ tied vs p last n → Added d ns p kind (Ok n) (record { count = more; options = d.options }) ws
-    add_passes kind f more vs ws all_pass made appended tying =
+    add_passes r answer kind f more vs ws all_pass made appended tying =
         let free : n < length ns = appended.free in
         let counted : more ≡ length (nodes_of d ns) + 1 = appended.counted ∙ ap (λ (m : ℕ). m + 1) listed in
         let new : f ≡ fresh kind p ((node_at ns p).level + 1) = made ∙ ap (λ (x : Node). fresh kind p (x.level + 1)) above_there in
         let memory : ws ≡ placed d ns p kind =
         tying
         ∙ ap (λ (xs : List Node). tied xs p last n) (appended.memory ∙ ap (λ (x : Node). set ns n x) new)
-        ∙ ap (λ (l : ℕ). tied (set ns n (fresh kind p ((node_at ns p).level + 1))) p l n) link_there
+        ∙ ap (λ (l : Option ℕ). tied (set ns n (fresh kind p ((node_at ns p).level + 1))) p l n) link_there
         ∙ ap (λ (m : ℕ). tied (set ns m (fresh kind p ((node_at ns p).level + 1))) p (last_link d ns p) m) listed in
-        rw (counted, memory, listed) (add_done kind (known ∙ all_pass) (found_inside d ns p r above is read) (omega arith))
+        rw (counted, memory, listed) (add_done kind (known ∙ not_refused (first_of tests) tt tt (sym answer ∙ all_pass)) (found_inside d ns p above read) (omega arith))

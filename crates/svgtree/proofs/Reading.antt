@@ -1,10 +1,11 @@
 -- Laws of the document that a memory holds.
-use Rattle.std.proofs.Common.{◌≡◌, ℕ, zero, suc, ◌<◌, ◌≤◌, min, Bool, true, false, not, ltb, List, [], ◌∷◌, map, length, get_or, Some, None, Option, sym, refl, ap, ◌∙◌, inl, inr, arith}
-use Rattle.std.specs.List.{slice_get}
+use Rattle.std.proofs.Common.{◌≡◌, ℕ, zero, suc, ◌<◌, ◌≤◌, min, Bool, true, false, not, ltb, List, [], ◌∷◌, length, Some, None, Ok, Err, Option, refl, ap, arith}
+use Rattle.std.specs.List.{AllByRecursion, slice_get}
+use Rattle.std.proofs.Math.ListN.{get_or-map}
 use Rattle.std.proofs.lemmas.List.{length-map, length-take, get_or-take}
-use Rattle.std.proofs.lemmas.Option.{slice_get-get_or, slice_get_past}
-use Rattle.std.proofs.lemmas.Bool.{cases_lt, lt-ltb, le-ltb, cond-true, cond-false}
-use Rattle.refusal.specs.Order.{first_of}
+use Rattle.std.proofs.lemmas.Option.{slice_get_within, get_or_from_slice_get}
+use Rattle.std.proofs.lemmas.Bool.{lt-ltb, cond-false}
+use Rattle.refusal.specs.Order.{first_of, unless}
 use Rattle.refusal.specs.declared.Refusal.{Refusal}
 use Rattle.refusal.specs.declared.Refusal.TheVariants.{UnknownNode}
 use Rattle.svgtree.specs.declared.node.Node.{Node}
@@ -14,24 +15,11 @@ use Rattle.svgtree.specs.Memory.{item_of, nodes_of, model_of, no_node, node_at}
 
 -- A READ OF A LIST
 
--- what a read gives stands there
-pub nth_some : {X : Type 0} (xs : List X) (n : ℕ) (x d : X) → slice_get xs n ≡ Some x → (n < length xs) × (get_or xs n d ≡ x)
-nth_some xs n x d e =
-    elim (cases_lt n (length xs)) [
-      | inl inside ↦ (inside, let same : Some (get_or xs n d) ≡ Some x = sym (slice_get-get_or xs n d inside) ∙ e in cc)
-      | inr past ↦ (let z : ◌≡◌ {A = ℕ} 0 1 = cc (slice_get_past xs n past) in absurd (omega arith))
-    ]
-
 -- a read that gives nothing is past the end
-pub nth_none : {X : Type 0} (xs : List X) (n : ℕ) → ((x : X) → slice_get xs n ≡ Some x → ⊥) → length xs ≤ n
+pub nth_none : {X : Type 0} (xs : List X) (n : ℕ) → slice_get xs n ≡ None → length xs ≤ n
 nth_none [] n none = omega arith
-nth_none (x ∷ xs) zero none = absurd (none x refl)
+nth_none (x ∷ xs) zero none = cc
 nth_none (x ∷ xs) (suc n) none = let past : length xs ≤ n = nth_none xs n none in omega arith
-
-get_or_mapped : {X Y : Type 0} (f : X → Y) (xs : List X) (n : ℕ) (d : X) → get_or (map f xs) n (f d) ≡ f (get_or xs n d)
-get_or_mapped f [] n d = refl
-get_or_mapped f (x ∷ xs) zero d = refl
-get_or_mapped f (x ∷ xs) (suc n) d = get_or_mapped f xs n d
 
 -- THE MODEL
 
@@ -43,37 +31,37 @@ module _ (d : Document) (ns : List Node) where
   nodes_count = length-take d.count ns
 
   pub model_item : (n : ℕ) → item (model_of d ns) n ≡ item_of (node_at (nodes_of d ns) n)
-  model_item n = get_or_mapped item_of (nodes_of d ns) n no_node
+  model_item n = get_or-map item_of (nodes_of d ns) n no_node
 
   pub node_used : (n : ℕ) → n < length (nodes_of d ns) → node_at (nodes_of d ns) n ≡ node_at ns n
   node_used n inside = get_or-take d.count ns n no_node (omega (arith, nodes_count))
 
 -- A NODE WAS READ: it was added, and stands there
-module _ (d : Document) (ns : List Node) (n : ℕ) (r : Option Node) (found : Node) (is : r ≡ slice_get (nodes_of d ns) n) (read : r ≡ Some found) where
+module _ (d : Document) (ns : List Node) (n : ℕ) (found : Node) (read : slice_get (nodes_of d ns) n ≡ Some found) where
   pub found_inside : n < length (nodes_of d ns)
-  found_inside = (nth_some (nodes_of d ns) n found no_node (sym is ∙ read)).0
+  found_inside = slice_get_within (nodes_of d ns) n found read
 
   pub found_there : node_at (nodes_of d ns) n ≡ found
-  found_there = (nth_some (nodes_of d ns) n found no_node (sym is ∙ read)).1
+  found_there = get_or_from_slice_get (nodes_of d ns) n found no_node read
 
 -- CHECKS
 
--- a check that fails decides, and one that passes leaves it to the later ones
-pub check_fails : (failed : Bool) (e : Refusal) (later : List (Bool × Refusal)) → failed ≡ true → first_of ((failed, e) ∷ later) ≡ Some e
-check_fails failed e later is = cond-true _ _ _ is
-
-pub check_passes : (failed : Bool) (e : Refusal) (later : List (Bool × Refusal)) → failed ≡ false → first_of ((failed, e) ∷ later) ≡ first_of later
-check_passes failed e later is = cond-false _ _ _ is
-
 -- where no check fails, each passes
-pub passes : (failed : Bool) (e : Refusal) (later : List (Bool × Refusal)) → first_of ((failed, e) ∷ later) ≡ None → (failed ≡ false) × (first_of later ≡ None)
-passes true e later is = let z : ◌≡◌ {A = ℕ} 0 1 = cc in absurd (omega arith)
-passes false e later is = (refl, is)
+pub passes : (checks : List (Bool × Refusal)) → first_of checks ≡ None → AllByRecursion (λ check. check.0 ≡ false) checks
+passes [] is = tt
+passes ((true, e) ∷ later) is = cc
+passes ((false, e) ∷ later) is = (refl, passes later is)
 
--- a number past the nodes in use was not added, and any other was
-module _ (d : Document) (ns : List Node) (n : ℕ) (later : List (Bool × Refusal)) where
-  pub not_added : length (nodes_of d ns) ≤ n → first_of ((not (ltb n (count (model_of d ns))), UnknownNode) ∷ later) ≡ Some UnknownNode
-  not_added past = check_fails _ UnknownNode later (ap not (le-ltb n (count (model_of d ns)) (omega (arith, model_count d ns))))
+-- an answer that refuses gives the refusal of the checks, and another one tells that none refuses
+pub was_refused : {X : Type 0} (refusal : Option Refusal) (x : X) (e : Refusal) → unless refusal x ≡ Err e → refusal ≡ Some e
+was_refused None x e is = cc
+was_refused (Some r) x e is = cc
 
-  pub was_added : n < length (nodes_of d ns) → first_of ((not (ltb n (count (model_of d ns))), UnknownNode) ∷ later) ≡ first_of later
-  was_added inside = check_passes _ UnknownNode later (ap not (lt-ltb n (count (model_of d ns)) (omega (arith, model_count d ns))))
+pub not_refused : {X : Type 0} (refusal : Option Refusal) (x y : X) → unless refusal x ≡ Ok y → refusal ≡ None
+not_refused None x y is = refl
+not_refused (Some r) x y is = cc
+
+-- the checks of a node that was added
+pub was_added : (d : Document) (ns : List Node) (n : ℕ) (later : List (Bool × Refusal)) → n < length (nodes_of d ns) →
+    first_of ((not (ltb n (count (model_of d ns))), UnknownNode) ∷ later) ≡ first_of later
+was_added d ns n later inside = cond-false _ _ _ (ap not (lt-ltb n (count (model_of d ns)) (omega (arith, model_count d ns))))

@@ -1,12 +1,11 @@
 -- The document after any calls is sound.
-use Rattle.std.proofs.Common.{◌≡◌, ℕ, zero, suc, ◌+◌, ◌-◌, ◌<◌, ◌≤◌, min, Bool, true, false, cond, not, ◌&&◌, eqb, ltb, leb, ◌≢◌, ◌⊎◌, List, [], ◌∷◌, ◌++◌, length, get_or, set, Some, None, Ok, Err, filter, Option, Result, sym, refl, ap, ◌∙◌, subst, inl, inr, arith}
+use Rattle.std.proofs.Common.{◌≡◌, ℕ, zero, suc, ◌+◌, ◌-◌, ◌<◌, ◌≤◌, min, Bool, true, false, cond, ◌&&◌, eqb, ltb, ◌≢◌, ◌⊎◌, List, [], ◌∷◌, ◌++◌, length, get_or, set, Some, None, Ok, Err, filter, Option, Result, sym, refl, ap, ◌∙◌, subst, inl, inr, arith}
 use mathlib.Core.Path.{fun_ext}
 use Rattle.std.specs.List.{range_with_len}
 use Rattle.std.proofs.lemmas.List.{append-nil, length-append, length_push, length-set, get_or_append_left, get_or_push, get_or-set_same, get_or-set_other, set_past}
 use Rattle.std.proofs.lemmas.Bool.{true≢false, cases_eq, cases_lt, cond-true, cond-false, eq-eqb, ne_eqb, ltb-true, leb-false, not-true, not-false, and_parts}
 use Rattle.refusal.specs.Order.{first_of, unless}
 use Rattle.refusal.specs.declared.Refusal.{Refusal}
-use Rattle.refusal.specs.declared.Refusal.TheVariants.{UnknownNode, ChildNotAllowed, AttributeNotAllowed, BadValue, DocumentFull, TooDeep}
 use Rattle.element.specs.declared.element.Element.{Element}
 use Rattle.element.specs.declared.value.Attribute.{Attribute}
 use Rattle.element.specs.declared.value.Attribute.TheVariants as attribute
@@ -15,20 +14,19 @@ use Rattle.element.specs.declared.value.Kind.TheVariants.{Svg}
 use Rattle.element.specs.declared.value.Role.{Role}
 use Rattle.element.specs.declared.value.Role.TheVariants as role
 use Rattle.element.specs.declared.value.Value.{Value}
-use Rattle.element.specs.Attributes.{place_of, value_of}
+use Rattle.element.specs.Attributes.{bare, place_of, value_of, with_value}
 use Rattle.element.specs.Roles.{role_of}
 use Rattle.svgtree.specs.declared.calls.Call.{Call}
 use Rattle.svgtree.specs.declared.calls.Call.TheVariants as call
-use Rattle.svgtree.specs.declared.document.Options.{Options}
+use Rattle.geom.specs.declared.options.Options.{Options}
 use Rattle.svgtree.specs.Limits.{max_nodes, max_levels}
 use Rattle.svgtree.specs.Allowed.{row, takes_attribute, role_takes_child, takes_child}
-use Rattle.svgtree.specs.Model.{Item, Model, bare, no_item, count, item, children, climb, level, beginning, with_child, with_value, with_attribute}
+use Rattle.svgtree.specs.Model.{Item, Model, no_item, count, item, children, climb, level, beginning, with_child, with_attribute}
 use Rattle.svgtree.specs.Steps.{good_options, new_checks, new_step, changed, nonempty, add_checks, set_checks, unset_checks, add_step, set_step, unset_step}
 use Rattle.svgtree.specs.Calls.{turn, edited, after_new, after}
 use Rattle.svgtree.specs.Sound.{FitFor, Sound}
-use Rattle.svgtree.proofs.Reading.{passes}
-use Rattle.svgtree.proofs.Following.{none_kept}
-use Rattle.svgtree.proofs.Resting.{not_refused}
+use Rattle.svgtree.proofs.Reading.{passes, not_refused}
+use Rattle.svgtree.proofs.Numbers.{none_kept, kept_same, kept_more}
 
 -- ATTRIBUTES
 
@@ -90,22 +88,6 @@ changed_value e a b o v is =
 
 -- NUMBERS
 
-kept_same : (f g : ℕ → Bool) (n a : ℕ) → ((j : ℕ) → a ≤ j → j < a + n → f j ≡ g j) → filter f (range_with_len a n) ≡ filter g (range_with_len a n)
-kept_same f g zero a same = refl
-kept_same f g (suc n) a same =
-    ap (λ (b : Bool). cond b (a ∷ filter f (range_with_len (a + 1) n)) (filter f (range_with_len (a + 1) n))) (same a (omega arith) (omega arith))
-    ∙ ap (λ (ks : List ℕ). cond (g a) (a ∷ ks) ks) (kept_same f g n (a + 1) (λ j h l. same j (omega arith) (omega arith)))
-
-kept_more : (f : ℕ → Bool) (n a k : ℕ) → k ≡ a + n → filter f (range_with_len a (suc n)) ≡ filter f (range_with_len a n) ++ cond (f k) (k ∷ []) []
-kept_more f zero a k e = let z : a ≡ k = omega arith in rw z
-kept_more f (suc n) a k e =
-    ap (λ (ks : List ℕ). cond (f a) (a ∷ ks) ks) (kept_more f n (a + 1) k (omega arith))
-    ∙ pushed (f a) a (filter f (range_with_len (a + 1) n)) (cond (f k) (k ∷ []) [])
-  where
-    pushed : (b : Bool) (x : ℕ) (xs ys : List ℕ) → cond b (x ∷ (xs ++ ys)) (xs ++ ys) ≡ cond b (x ∷ xs) xs ++ ys
-    pushed true x xs ys = refl
-    pushed false x xs ys = refl
-
 none_empty : (xs : List ℕ) → nonempty xs ≡ false → length xs ≡ 0
 none_empty [] is = refl
 none_empty (x ∷ xs) is = absurd (true≢false is)
@@ -161,7 +143,7 @@ sound_beginning options good =
       values = λ n l a value is.
           let e : n ≡ 0 = omega arith in
           let none : None ≡ Some value = sym (bare_none Svg a) ∙ ap (λ (k : ℕ). value_of (item (beginning options) k).element a) (sym e) ∙ is in
-          let z : ◌≡◌ {A = ℕ} 0 1 = cc in absurd (omega arith);
+          cc;
     }
 
 -- A NODE MORE
@@ -239,7 +221,7 @@ module _ (m : Model) (p : ℕ) (kind : Kind) (sound : Sound m) (known : p < coun
   -- the children that there were, and the new one
   children_more : (q : ℕ) → children m' q ≡ children m q ++ cond (eqb p q) (n ∷ []) []
   children_more q =
-      let fuel : count m' - 1 ≡ suc (n - 1) = omega (arith, more) in
+      let fuel : count m' - 1 ≡ n - 1 + 1 = omega (arith, more) in
       let last : n ≡ 1 + (n - 1) = omega arith in
       ap (λ (j : ℕ). filter (λ k. eqb (item m' k).parent q) (range_with_len 1 j)) fuel
       ∙ kept_more (λ k. eqb (item m' k).parent q) (n - 1) 1 n last
@@ -287,7 +269,7 @@ module _ (m : Model) (p : ℕ) (kind : Kind) (sound : Sound m) (known : p < coun
             subst P (sym (old k o)) (sound.values k o a value (ap (λ (it : Item). value_of it.element a) (sym (old k o)) ∙ is))
         | inr o ↦
             let none : None ≡ Some value = sym (bare_none kind a) ∙ ap (λ (it : Item). value_of it.element a) (sym new) ∙ ap (λ (j : ℕ). value_of (item m' j).element a) (sym o) ∙ is in
-            let z : ◌≡◌ {A = ℕ} 0 1 = cc in absurd (omega arith)
+            cc
       ]
 
   sound_child : Sound m'
@@ -375,9 +357,9 @@ module _ (m : Model) (n : ℕ) (a : Attribute) (o : Option Value) (sound : Sound
 -- A CALL
 
 -- what is left is sound, whether the call was refused or not
-sound_changed : (refusal : Option Refusal) (m m' : Model) → Sound m → (refusal ≡ None → Sound m') → Sound (changed refusal m m')
-sound_changed (Some e) m m' sound accepted = sound
-sound_changed None m m' sound accepted = accepted refl
+sound_changed : (refusal : Option Refusal) (before after : Model) → Sound before → (refusal ≡ None → Sound after) → Sound (changed refusal before after)
+sound_changed (Some e) before after sound accepted = sound
+sound_changed None before after sound accepted = accepted refl
 
 module _ (m : Model) (sound : Sound m) where
   sound_add : (lent p : ℕ) (kind : Kind) → Sound (add_step lent m p kind).document
@@ -386,19 +368,12 @@ module _ (m : Model) (sound : Sound m) where
       (first_of (add_checks lent (count m) (ltb p (count m)) (item m p).element.kind (nonempty (children m p)) (level m p)))
       m (with_child m p kind) sound
       (λ accepted.
-      let one =
-      passes (not (ltb p (count m))) UnknownNode
-      ((not (takes_child (item m p).element.kind (nonempty (children m p))), ChildNotAllowed) ∷ (leb (min lent max_nodes) (count m), DocumentFull) ∷ (leb max_levels (level m p), TooDeep) ∷ []) accepted in
-      let two =
-      passes (not (takes_child (item m p).element.kind (nonempty (children m p)))) ChildNotAllowed
-      ((leb (min lent max_nodes) (count m), DocumentFull) ∷ (leb max_levels (level m p), TooDeep) ∷ []) one.1 in
-      let three = passes (leb (min lent max_nodes) (count m)) DocumentFull ((leb max_levels (level m p), TooDeep) ∷ []) two.1 in
-      let four = passes (leb max_levels (level m p)) TooDeep [] three.1 in
+      let each = passes (add_checks lent (count m) (ltb p (count m)) (item m p).element.kind (nonempty (children m p)) (level m p)) accepted in
       sound_child m p kind sound
-      (ltb-true p (count m) (not-false (ltb p (count m)) one.0))
-      (not-false (takes_child (item m p).element.kind (nonempty (children m p))) two.0)
-      (omega (arith, leb-false (min lent max_nodes) (count m) three.0))
-      (leb-false max_levels (level m p) four.0))
+      (ltb-true p (count m) (not-false (ltb p (count m)) each.0))
+      (not-false (takes_child (item m p).element.kind (nonempty (children m p))) each.1.0)
+      (omega (arith, leb-false (min lent max_nodes) (count m) each.1.1.0))
+      (leb-false max_levels (level m p) each.1.1.1.0))
 
   sound_set : (n : ℕ) (a : Attribute) (value : Value) → Sound (set_step m n a value).document
   sound_set n a value =
@@ -406,19 +381,14 @@ module _ (m : Model) (sound : Sound m) where
       (first_of (set_checks (ltb n (count m)) (eqb n 0) (item m n).element.kind a value))
       m (with_attribute m n a (Some value)) sound
       (λ accepted.
-      let one =
-      passes (not (ltb n (count m))) UnknownNode
-      ((not (takes_attribute (eqb n 0) (item m n).element.kind a && (row a).form value), AttributeNotAllowed) ∷ (not ((row a).range value), BadValue) ∷ []) accepted in
-      let two =
-      passes (not (takes_attribute (eqb n 0) (item m n).element.kind a && (row a).form value)) AttributeNotAllowed ((not ((row a).range value), BadValue) ∷ []) one.1 in
-      let three = passes (not ((row a).range value)) BadValue [] two.1 in
-      let both = and_parts (takes_attribute (eqb n 0) (item m n).element.kind a) ((row a).form value) (not-false (takes_attribute (eqb n 0) (item m n).element.kind a && (row a).form value) two.0) in
+      let each = passes (set_checks (ltb n (count m)) (eqb n 0) (item m n).element.kind a value) accepted in
+      let both = and_parts (takes_attribute (eqb n 0) (item m n).element.kind a) ((row a).form value) (not-false (takes_attribute (eqb n 0) (item m n).element.kind a && (row a).form value) each.1.0) in
       sound_attribute m n a (Some value) sound
-      (ltb-true n (count m) (not-false (ltb n (count m)) one.0))
+      (ltb-true n (count m) (not-false (ltb n (count m)) each.0))
       (λ v is.
       let same : value ≡ v = cc in
       subst (λ (x : Value). FitFor n (item m n).element.kind a x) same
-      (record { taken = both.0; form = both.1; range = not-false ((row a).range value) three.0 })))
+      (record { taken = both.0; form = both.1; range = not-false ((row a).range value) each.1.1.0 })))
 
   sound_unset : (n : ℕ) (a : Attribute) → Sound (unset_step m n a).document
   sound_unset n a =
@@ -426,10 +396,10 @@ module _ (m : Model) (sound : Sound m) where
       (first_of (unset_checks (ltb n (count m)) (eqb n 0) (item m n).element.kind a))
       m (with_attribute m n a None) sound
       (λ accepted.
-      let one = passes (not (ltb n (count m))) UnknownNode ((not (takes_attribute (eqb n 0) (item m n).element.kind a), AttributeNotAllowed) ∷ []) accepted in
+      let each = passes (unset_checks (ltb n (count m)) (eqb n 0) (item m n).element.kind a) accepted in
       sound_attribute m n a None sound
-      (ltb-true n (count m) (not-false (ltb n (count m)) one.0))
-      (λ v is. let z : ◌≡◌ {A = ℕ} 0 1 = cc in absurd (omega arith)))
+      (ltb-true n (count m) (not-false (ltb n (count m)) each.0))
+      (λ v is. cc))
 
 sound_turn : (lent : ℕ) (m : Model) (c : Call) → Sound m → Sound (turn lent m c).document
 sound_turn lent m (call.Add p kind) sound = sound_add m sound lent p kind
@@ -445,15 +415,14 @@ sound_edited lent m (c ∷ calls) sound = sound_edited lent (turn lent m c).docu
 
 sound_new : (lent : ℕ) (options : Options) (m : Model) → new_step lent options ≡ Ok m → Sound m
 sound_new lent options m is =
-    let accepted : first_of (new_checks lent options) ≡ None = not_refused (first_of (new_checks lent options)) (beginning options) m (sym is) in
-    let one = passes (eqb lent 0) DocumentFull ((not (good_options options), BadValue) ∷ []) accepted in
-    let two = passes (not (good_options options)) BadValue [] one.1 in
+    let accepted : first_of (new_checks lent options) ≡ None = not_refused (first_of (new_checks lent options)) (beginning options) m is in
+    let each = passes (new_checks lent options) accepted in
     let made : Ok (beginning options) ≡ Ok m = ap (λ (r : Option Refusal). unless r (beginning options)) (sym accepted) ∙ is in
     let same : beginning options ≡ m = cc in
-    subst Sound same (sound_beginning options (not-false (good_options options) two.0))
+    subst Sound same (sound_beginning options (not-false (good_options options) each.1.0))
 
 after_from : (lent : ℕ) (r : Result Model Refusal) (calls : List Call) (m : Model) → ((x : Model) → r ≡ Ok x → Sound x) → after_new lent r calls ≡ Ok m → Sound m
-after_from lent (Err e) calls m each is = let z : ◌≡◌ {A = ℕ} 0 1 = cc in absurd (omega arith)
+after_from lent (Err e) calls m each is = cc
 after_from lent (Ok x) calls m each is = let same : edited lent x calls ≡ m = cc in subst Sound same (sound_edited lent x calls (each x refl))
 
 pub sound_after : (options : Options) (lent : ℕ) (calls : List Call) (m : Model) → after options lent calls ≡ Ok m → Sound m

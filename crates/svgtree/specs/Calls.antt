@@ -1,24 +1,25 @@
 -- Lists of calls: the document after them and what they answer follow from the options of `new`, the number of nodes lent and
 -- the calls' arguments alone.
 use Rattle.std.specs.Prelude.{ℕ, List, [], ◌∷◌, Ok, Err, Result}
+use Rattle.std.specs.Result.{result_map_both}
 use Rattle.refusal.specs.declared.Refusal.{Refusal}
-use Rattle.svgtree.specs.declared.calls.Answer.{Answer}
-use Rattle.svgtree.specs.declared.calls.Answer.TheVariants as answer
 use Rattle.svgtree.specs.declared.calls.Call.{Call}
 use Rattle.svgtree.specs.declared.calls.Call.TheVariants as call
-use Rattle.svgtree.specs.declared.document.Options.{Options}
+use Rattle.svgtree.specs.declared.calls.Done.{Done}
+use Rattle.svgtree.specs.declared.calls.Done.TheVariants as did
+use Rattle.geom.specs.declared.options.Options.{Options}
 use Rattle.svgtree.specs.Model.{Model}
 use Rattle.svgtree.specs.Steps.{new_step, add_step, set_step, unset_step}
 
 -- ONE CALL
 
-abbrev pub number_told : Result ℕ Refusal → Answer
-number_told (Ok n) = answer.Added n
-number_told (Err refusal) = answer.Refused refusal
+-- what a call did, or why it was refused
+abbrev pub Answer : Type 0
+Answer = Result Done Refusal
 
-abbrev pub done_told : Result (Unit {0}) Refusal → Answer
-done_told (Ok done) = answer.Done
-done_told (Err refusal) = answer.Refused refusal
+-- what is told of a call that gave r, where `done` says what it did
+abbrev pub told_by : {X : Type 0} → (X → Done) → Result X Refusal → Answer
+told_by done r = result_map_both done (λ refusal. refusal) r
 
 -- what a call answers, and the document that it leaves
 pub record Turn : Type 0 where
@@ -27,9 +28,9 @@ pub record Turn : Type 0 where
 
 -- where so many nodes are lent
 abbrev pub turn : ℕ → Model → Call → Turn
-turn lent m (call.Add parent kind) = record { told = number_told (add_step lent m parent kind).answer; document = (add_step lent m parent kind).document }
-turn lent m (call.Set n a value) = record { told = done_told (set_step m n a value).answer; document = (set_step m n a value).document }
-turn lent m (call.Unset n a) = record { told = done_told (unset_step m n a).answer; document = (unset_step m n a).document }
+turn lent m (call.Add parent kind) = record { told = told_by did.Added (add_step lent m parent kind).answer; document = (add_step lent m parent kind).document }
+turn lent m (call.Set n a value) = record { told = told_by (λ _. did.Edited) (set_step m n a value).answer; document = (set_step m n a value).document }
+turn lent m (call.Unset n a) = record { told = told_by (λ _. did.Edited) (unset_step m n a).answer; document = (unset_step m n a).document }
 
 -- A LIST OF CALLS
 

@@ -1,5 +1,5 @@
 -- What each call does to a document in memory, whatever the memory held.
-use Rattle.std.specs.Prelude.{◌≡◌, ℕ, ◌+◌, List, length, Ok, Err, Option, Result, slice_set}
+use Rattle.std.specs.Prelude.{◌≡◌, ℕ, ◌+◌, List, length, IfOk, Ok, Err, Option, Result, slice_set}
 use Rattle.refusal.specs.Order.{first_of, unless}
 use Rattle.refusal.specs.declared.Refusal.{Refusal}
 use Rattle.element.specs.declared.value.Attribute.{Attribute}
@@ -8,7 +8,7 @@ use Rattle.element.specs.declared.value.Kind.TheVariants.{Svg}
 use Rattle.element.specs.declared.value.Value.{Value}
 use Rattle.svgtree.specs.declared.node.Node.{Node}
 use Rattle.svgtree.specs.declared.document.Document.{Document}
-use Rattle.svgtree.specs.declared.document.Options.{Options}
+use Rattle.geom.specs.declared.options.Options.{Options}
 use Rattle.svgtree.specs.Model.{Model, with_child}
 use Rattle.svgtree.specs.Steps.{Outcome, new_checks, new_step, add_step}
 use Rattle.svgtree.specs.Memory.{nodes_of, model_of, fresh, attribute_changed, place_refusal, placed}
@@ -24,16 +24,12 @@ abbrev pub made_in : List Node → Result Document Refusal → Result Model Refu
 made_in ns (Ok d) = Ok (model_of d ns)
 made_in ns (Err refusal) = Err refusal
 
-abbrev pub IfMade : Result Document Refusal → (Document → Type 0) → Type 0
-IfMade (Ok d) P = P d
-IfMade (Err refusal) P = Unit {0}
-
 -- `new` made r of these nodes, and left ns': refused, everything as it was; else the root in place 0, and nothing else changed
 pub record Begun (options : Options) (ns : List Node) (r : Result Document Refusal) (ns' : List Node) : Type 0 where
   pub answer : r ≡ unless (first_of (new_checks (length ns) options)) (record { count = 1; options = options })
   pub memory : ns' ≡ left_by r ns (slice_set ns 0 (fresh Svg 0 1))
   pub step : made_in ns' r ≡ new_step (length ns) options
-  pub links : IfMade r (λ d. Linked (nodes_of d ns'))
+  pub links : IfOk r (λ d. Linked (nodes_of d ns'))
 
 -- `add` answered r, and left d' and ns': refused, everything as it was. On any memory, answer, count and memory follow from what
 -- the memory has for the parent; where it is linked, that is what the document has, and so the outcome is the rules'.

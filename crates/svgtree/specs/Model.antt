@@ -1,13 +1,13 @@
 -- A document: its options, and the element and the parent of each node, by number.
-use Rattle.std.specs.Prelude.{ℕ, zero, suc, ◌+◌, ◌-◌, cond, List, [], ◌∷◌, ◌++◌, length, replicate, None, filter, Option, ◌==◌, nat_eq, slice_index_or, slice_set}
+use Rattle.std.specs.Prelude.{ℕ, zero, suc, ◌+◌, ◌-◌, cond, List, [], ◌∷◌, ◌++◌, length, filter, Option, ◌==◌, nat_eq, slice_index_or, slice_set}
 use Rattle.std.specs.List.{range_with_len, flat_map}
 use Rattle.element.specs.declared.element.Element.{Element}
 use Rattle.element.specs.declared.value.Attribute.{Attribute}
 use Rattle.element.specs.declared.value.Kind.{Kind}
 use Rattle.element.specs.declared.value.Kind.TheVariants.{Svg}
 use Rattle.element.specs.declared.value.Value.{Value}
-use Rattle.element.specs.Attributes.{place_of}
-use Rattle.svgtree.specs.declared.document.Options.{Options}
+use Rattle.element.specs.Attributes.{bare, with_value}
+use Rattle.geom.specs.declared.options.Options.{Options}
 use Rattle.svgtree.specs.Limits.{max_levels}
 
 pub record Item : Type 0 where
@@ -18,10 +18,6 @@ pub record Item : Type 0 where
 pub record Model : Type 0 where
   pub options : Options
   pub items : List Item
-
--- an element without attributes
-abbrev pub bare : Kind → Element
-bare kind = record { kind = kind; attributes = replicate 11 None }
 
 -- what stands for a node that there is not
 abbrev pub no_item : Item
@@ -68,10 +64,6 @@ beginning options = record { options = options; items = record { element = bare 
 abbrev pub with_child : Model → ℕ → Kind → Model
 with_child m parent kind =
     record { options = m.options; items = m.items ++ record { element = bare kind; parent = parent } ∷ [] }
-
--- an element with this value of an attribute, or none
-abbrev pub with_value : Element → Attribute → Option Value → Element
-with_value e a value = record { kind = e.kind; attributes = slice_set e.attributes (place_of a) value }
 
 -- one node's attribute with this value, or none
 abbrev pub with_attribute : Model → ℕ → Attribute → Option Value → Model

@@ -1,26 +1,26 @@
 -- Calls and runs of calls on a document in memory.
-use Rattle.std.specs.Prelude.{◌≡◌, ℕ, ◌≤◌, List, [], ◌∷◌, length, Some, None, Err, Result}
+use Rattle.std.specs.Prelude.{◌≡◌, ℕ, ◌≤◌, List, [], ◌∷◌, length, IfOk, Some, None, Err, Result}
 use Rattle.refusal.specs.declared.Refusal.{Refusal}
-use Rattle.svgtree.specs.declared.calls.Answer.{Answer}
 use Rattle.svgtree.specs.declared.calls.Call.{Call}
 use Rattle.svgtree.specs.declared.calls.Call.TheVariants as call
+use Rattle.svgtree.specs.declared.calls.Done.TheVariants as did
 use Rattle.svgtree.specs.declared.node.Node.{Node}
 use Rattle.svgtree.specs.declared.document.Document.{Document}
-use Rattle.svgtree.specs.declared.document.Options.{Options}
+use Rattle.geom.specs.declared.options.Options.{Options}
 use Rattle.svgtree.specs.Steps.{set_step, unset_step}
 use Rattle.svgtree.specs.Memory.{nodes_of, model_of, node_at}
 use Rattle.svgtree.specs.Links.{Linked}
-use Rattle.svgtree.specs.Edits.{Added, Edited, made_in, IfMade}
-use Rattle.svgtree.specs.Calls.{number_told, done_told, turn, edited, told, after, answers_after}
+use Rattle.svgtree.specs.Edits.{Added, Edited, made_in}
+use Rattle.svgtree.specs.Calls.{Answer, told_by, turn, edited, told, after, answers_after}
 use Rattle.svgtree.specs.Sound.{Sound}
 
 -- what one call did, whatever the memory held
 abbrev pub DoneBy : Document → List Node → Call → Answer → Document → List Node → Type 0
-DoneBy d ns (call.Add parent kind) told d' ns' = (r : Result ℕ Refusal) × (told ≡ number_told r) × Added d ns parent kind r d' ns'
+DoneBy d ns (call.Add parent kind) told d' ns' = (r : Result ℕ Refusal) × (told ≡ told_by did.Added r) × Added d ns parent kind r d' ns'
 DoneBy d ns (call.Set n a value) told d' ns' =
-    (r : Result (Unit {0}) Refusal) × (told ≡ done_told r) × (d' ≡ d) × Edited d ns n a (Some value) (set_step (model_of d ns) n a value) r ns'
+    (r : Result (Unit {0}) Refusal) × (told ≡ told_by (λ _. did.Edited) r) × (d' ≡ d) × Edited d ns n a (Some value) (set_step (model_of d ns) n a value) r ns'
 DoneBy d ns (call.Unset n a) told d' ns' =
-    (r : Result (Unit {0}) Refusal) × (told ≡ done_told r) × (d' ≡ d) × Edited d ns n a None (unset_step (model_of d ns) n a) r ns'
+    (r : Result (Unit {0}) Refusal) × (told ≡ told_by (λ _. did.Edited) r) × (d' ≡ d) × Edited d ns n a None (unset_step (model_of d ns) n a) r ns'
 
 pub record Called (d : Document) (ns : List Node) (c : Call) (told : Answer) (d' : Document) (ns' : List Node) : Type 0 where
   pub done : DoneBy d ns c told d' ns'
@@ -52,8 +52,8 @@ pub record AllCalled (d : Document) (ns : List Node) (calls : List Call) (places
 pub record Ran (options : Options) (ns : List Node) (calls : List Call) (places : List Answer) (r : Result Document Refusal) (ns' : List Node) (places' : List Answer) : Type 0 where
   pub document : made_in ns' r ≡ after options (length ns) calls
   pub answers : places' ≡ written places (answers_after options (length ns) calls)
-  pub counted : IfMade r (λ d. d.count ≡ length (nodes_of d ns'))
-  pub links : IfMade r (λ d. Linked (nodes_of d ns'))
-  pub sound : IfMade r (λ d. Sound (model_of d ns'))
-  pub rest : IfMade r (λ d. RestKept ns d ns')
+  pub counted : IfOk r (λ d. d.count ≡ length (nodes_of d ns'))
+  pub links : IfOk r (λ d. Linked (nodes_of d ns'))
+  pub sound : IfOk r (λ d. Sound (model_of d ns'))
+  pub rest : IfOk r (λ d. RestKept ns d ns')
   pub refused : (refusal : Refusal) → r ≡ Err refusal → ns' ≡ ns

@@ -8,7 +8,7 @@ use Rattle.element.specs.declared.value.Value.{Value}
 use Rattle.element.specs.Attributes.{value_of}
 use Rattle.element.specs.Roles.{role_of}
 use Rattle.svgtree.specs.declared.calls.Call.{Call}
-use Rattle.svgtree.specs.declared.document.Options.{Options}
+use Rattle.geom.specs.declared.options.Options.{Options}
 use Rattle.svgtree.specs.Limits.{max_nodes, max_levels}
 use Rattle.svgtree.specs.Allowed.{row, takes_attribute, takes_child}
 use Rattle.svgtree.specs.Model.{Model, count, item, children, level}

@@ -8,7 +8,7 @@ use Rattle.refusal.specs.declared.Refusal.TheVariants.{UnknownNode, ChildNotAllo
 use Rattle.element.specs.declared.value.Attribute.{Attribute}
 use Rattle.element.specs.declared.value.Kind.{Kind}
 use Rattle.element.specs.declared.value.Value.{Value}
-use Rattle.svgtree.specs.declared.document.Options.{Options}
+use Rattle.geom.specs.declared.options.Options.{Options}
 use Rattle.svgtree.specs.Limits.{max_nodes, max_levels, min_dpi, max_dpi, max_font_size}
 use Rattle.svgtree.specs.Allowed.{row, takes_attribute, takes_child}
 use Rattle.svgtree.specs.Model.{Model, count, item, children, level, beginning, with_child, with_attribute}

@@ -1,18 +1,17 @@
 //! Calls as values, and the run of a list of calls.
 
-ghost use Rattle.std.specs.Prelude.{◌≡◌};
 ghost use Rattle.svgtree.specs.Memory.{nodes_of};
 ghost use Rattle.svgtree.specs.Links.{Linked};
-ghost use Rattle.svgtree.specs.Calls.{number_told, done_told};
 ghost use Rattle.svgtree.specs.Runs.{Called, AllCalled, Ran};
 
 use crate::document::Document;
 use crate::node::{Node, NodeId};
 use element::{Attribute, Kind, Value};
+use geom::Options;
 use refusal::Refusal;
 
 /// A call that edits a document.
-#[derive(Clone, Copy)]
+#[derive(Clone, Copy, PartialEq, Debug)]
 pub enum Call {
     Add {
         parent: NodeId,
@@ -29,13 +28,15 @@ pub enum Call {
     },
 }
 
-/// What a call answers: the number of the node that it added, that it was done, or why it was refused.
+/// What a call did: it added a node, of this number, or edited one.
 #[derive(Clone, Copy, PartialEq, Eq, Debug)]
-pub enum Answer {
+pub enum Done {
     Added(NodeId),
-    Done,
-    Refused(Refusal),
+    Edited,
 }
+
+/// What a call answers: what it did, or why it was refused.
+pub type Answer = Result<Done, Refusal>;
 
 impl Document {
     /// Does one call.
@@ -43,32 +44,18 @@ impl Document {
         ensures { Called self.old nodes.old call result self.new nodes.new }
     {
         match call {
-            Call::Add { parent, kind } => number_told(self.add(nodes, parent, kind)),
+            Call::Add { parent, kind } => self.add(nodes, parent, kind).map(Done::Added),
             Call::Set {
                 node,
                 attribute,
                 value,
-            } => done_told(self.set(nodes, node, attribute, value)),
-            Call::Unset { node, attribute } => done_told(self.unset(nodes, node, attribute)),
+            } => self
+                .set(nodes, node, attribute, value)
+                .map(|()| Done::Edited),
+            Call::Unset { node, attribute } => {
+                self.unset(nodes, node, attribute).map(|()| Done::Edited)
+            }
         }
-    }
-}
-
-fn number_told(res: Result<NodeId, Refusal>) -> Answer
-    ensures { result ≡ number_told res }
-{
-    match res {
-        Ok(node) => Answer::Added(node),
-        Err(refusal) => Answer::Refused(refusal),
-    }
-}
-
-fn done_told(res: Result<(), Refusal>) -> Answer
-    ensures { result ≡ done_told res }
-{
-    match res {
-        Ok(()) => Answer::Done,
-        Err(refusal) => Answer::Refused(refusal),
     }
 }
 
@@ -77,11 +64,14 @@ fn edit(document: &mut Document, nodes: &mut [Node], calls: &[Call], answers: &m
     requires { Linked (nodes_of document.old nodes.old) }
     ensures { AllCalled document.old nodes.old calls.now answers.old document.new nodes.new answers.new }
 {
-    for (i, call) in calls.iter().enumerate() {
-        let answer = document.call(nodes, *call);
-        if i < answers.len() {
-            answers[i] = answer;
-        }
+    let mut left = calls.iter();
+    for place in answers.iter_mut() {
+        let Some(call) = left.next() else { return };
+        *place = document.call(nodes, *call);
+    }
+    // No place is left for these answers.
+    for call in left {
+        let _ = document.call(nodes, *call);
     }
 }
 
@@ -89,14 +79,13 @@ fn edit(document: &mut Document, nodes: &mut [Node], calls: &[Call], answers: &m
 /// in their order, as many as there is room for: a caller who wants the document alone lends no room.
 pub fn run(
     nodes: &mut [Node],
-    dpi: f32,
-    font_size: f32,
+    options: Options,
     calls: &[Call],
     answers: &mut [Answer],
 ) -> Result<Document, Refusal>
-    ensures { Ran (record { dpi = dpi; font_size = font_size }) nodes.old calls.now answers.old result nodes.new answers.new }
+    ensures { Ran options nodes.old calls.now answers.old result nodes.new answers.new }
 {
-    let mut document = Document::new(nodes, dpi, font_size)?;
+    let mut document = Document::new(nodes, options)?;
     edit(&mut document, nodes, calls, answers);
     Ok(document)
 }

@@ -1,8 +1,9 @@
 ghost use Rattle.std.specs.Prelude.{◌≡◌, ◌<◌, length, Some, None};
 ghost use Rattle.std.specs.List.{slice_get};
+ghost use Rattle.std.specs.Option.{ForSome};
 ghost use Rattle.svgtree.specs.Steps.{good_options, set_step, unset_step};
 ghost use Rattle.svgtree.specs.Model.{children, later_siblings};
-ghost use Rattle.svgtree.specs.Memory.{nodes_of, model_of, node_at, link_within, tied, value_changed};
+ghost use Rattle.svgtree.specs.Memory.{nodes_of, model_of, node_at, link_within, tied};
 ghost use Rattle.svgtree.specs.Links.{Linked, onward, head};
 ghost use Rattle.svgtree.specs.Edits.{Begun, Added, Edited};
 
@@ -10,51 +11,30 @@ use crate::allowed::{has_form, in_range, takes, takes_child};
 use crate::limits::{MAX_DPI, MAX_FONT_SIZE, MAX_LEVELS, MAX_NODES, MIN_DPI};
 use crate::node::{Node, NodeId};
 use element::{Attribute, Kind, Value};
+use geom::Options;
 use refusal::{Refusal, first};
-
-/// What lengths are measured with: the dpi and the initial font size.
-#[derive(Clone, Copy)]
-pub struct Options {
-    pub dpi: f32,
-    pub font_size: f32,
-}
 
 /// A document: how many nodes it has, and its options. It is lent its nodes at each call, and its count is read as at
 /// most the number lent.
-#[derive(Clone, Copy)]
+#[derive(Clone, Copy, PartialEq, Debug)]
 pub struct Document {
     pub count: usize,
     pub options: Options,
 }
 
-impl Options {
-    fn are_good(self) -> bool
-        ensures { result ≡ good_options self }
-    {
-        (MIN_DPI <= self.dpi)
-            & (self.dpi <= MAX_DPI)
-            & (0.0 < self.font_size)
-            & (self.font_size <= MAX_FONT_SIZE)
-    }
-}
-
 impl Document {
     /// A document of one node, the root: an svg without attributes.
-    pub fn new(nodes: &mut [Node], dpi: f32, font_size: f32) -> Result<Document, Refusal>
-        ensures { Begun (record { dpi = dpi; font_size = font_size }) nodes.old result nodes.new }
+    pub fn new(nodes: &mut [Node], options: Options) -> Result<Document, Refusal>
+        ensures { Begun options nodes.old result nodes.new }
     {
-        let options = Options { dpi, font_size };
-        let checks = [
-            (nodes.len() == 0, Refusal::DocumentFull),
-            (!options.are_good(), Refusal::BadValue),
-        ];
-        if let Some(refusal) = first(&checks) {
-            return Err(refusal);
-        }
-        match list::add(nodes, 0, Node::new(Kind::Svg, 0, 1)) {
-            Ok(count) => Ok(Document { count, options }),
-            Err(_) => Err(Refusal::DocumentFull),
-        }
+        first(&[
+            (nodes.is_empty(), Refusal::DocumentFull),
+            (!are_good(options), Refusal::BadValue),
+        ])?;
+        let count = list::add(nodes, 0, Node::new(Kind::Svg, 0, 1)).map_err(
+            |_| Refusal::DocumentFull,
+        )?;
+        Ok(Document { count, options })
     }
 
     /// How many nodes are in use.
@@ -94,29 +74,22 @@ impl Document {
         ensures { Added self.old nodes.old parent kind result self.new nodes.new }
     {
         let count = self.used(nodes);
-        let Some(above) = self.node(nodes, parent) else {
-            return Err(Refusal::UnknownNode);
-        };
+        let above = self.node(nodes, parent).ok_or(Refusal::UnknownNode)?;
         let last = link_within(above.last_child, count);
-        let checks = [
+        first(&[
             (
-                !takes_child(above.element.kind, last != 0),
+                !takes_child(above.element.kind, last.is_some()),
                 Refusal::ChildNotAllowed,
             ),
             (count >= nodes.len().min(MAX_NODES), Refusal::DocumentFull),
             (above.level >= MAX_LEVELS, Refusal::TooDeep),
-        ];
-        if let Some(refusal) = first(&checks) {
-            return Err(refusal);
-        }
-        match list::add(nodes, count, Node::new(kind, parent, above.level + 1)) {
-            Ok(more) => {
-                tie(nodes, parent, last, count as NodeId);
-                self.count = more;
-                Ok(count as NodeId)
-            }
-            Err(_) => Err(Refusal::DocumentFull),
-        }
+        ])?;
+        let more = list::add(nodes, count, Node::new(kind, parent, above.level + 1)).map_err(
+            |_| Refusal::DocumentFull,
+        )?;
+        tie(nodes, parent, last, count as NodeId);
+        self.count = more;
+        Ok(count as NodeId)
     }
 
     /// Gives a node a value of an attribute, for any earlier one.
@@ -129,21 +102,14 @@ impl Document {
     ) -> Result<(), Refusal>
         ensures { Edited self.now nodes.old node attribute (Some value) (set_step (model_of self.now nodes.old) node attribute value) result nodes.new }
     {
-        let Some(found) = self.node(nodes, node) else {
-            return Err(Refusal::UnknownNode);
-        };
+        let found = self.node(nodes, node).ok_or(Refusal::UnknownNode)?;
         let taken = takes(node == 0, found.element.kind, attribute);
-        let checks = [
-            (
-                !(taken & has_form(attribute, value)),
-                Refusal::AttributeNotAllowed,
-            ),
+        first(&[
+            (!taken, Refusal::AttributeNotAllowed),
+            (!has_form(attribute, value), Refusal::AttributeNotAllowed),
             (!in_range(attribute, value), Refusal::BadValue),
-        ];
-        if let Some(refusal) = first(&checks) {
-            return Err(refusal);
-        }
-        let changed = with_attribute(found, attribute, Some(value));
+        ])?;
+        let changed = found.with(attribute, Some(value));
         list::replace(nodes, self.count, node as usize, changed);
         Ok(())
     }
@@ -157,54 +123,49 @@ impl Document {
     ) -> Result<(), Refusal>
         ensures { Edited self.now nodes.old node attribute None (unset_step (model_of self.now nodes.old) node attribute) result nodes.new }
     {
-        let Some(found) = self.node(nodes, node) else {
-            return Err(Refusal::UnknownNode);
-        };
+        let found = self.node(nodes, node).ok_or(Refusal::UnknownNode)?;
         if !takes(node == 0, found.element.kind, attribute) {
             return Err(Refusal::AttributeNotAllowed);
         }
-        let changed = with_attribute(found, attribute, None);
+        let changed = found.with(attribute, None);
         list::replace(nodes, self.count, node as usize, changed);
         Ok(())
     }
 }
 
-fn with_attribute(node: Node, attribute: Attribute, value: Option<Value>) -> Node
-    ensures { result ≡ value_changed node attribute value }
+// A dpi from the least to the greatest, and a font size above 0 and up to the greatest.
+fn are_good(options: Options) -> bool
+    ensures { result ≡ good_options options }
 {
-    let mut changed = node;
-    changed.element.attributes[attribute.place()] = value;
-    changed
+    MIN_DPI <= options.dpi
+        && options.dpi <= MAX_DPI
+        && 0.0 < options.font_size
+        && options.font_size <= MAX_FONT_SIZE
 }
 
 // The node that a link leads to, if that is a later one in use.
-fn followed(from: NodeId, link: NodeId, count: usize) -> Option<NodeId>
+fn followed(from: NodeId, link: Option<NodeId>, count: usize) -> Option<NodeId>
     ensures { result ≡ onward count from link }
 {
-    if from < link && (link as usize) < count {
-        Some(link)
-    } else {
-        None
-    }
+    link.filter(|k| from < *k && (*k as usize) < count)
 }
 
-// A link, or 0 where it leads out of the nodes in use.
-fn link_within(link: NodeId, count: usize) -> NodeId
+// A link, or none where it leads out of the nodes in use.
+fn link_within(link: Option<NodeId>, count: usize) -> Option<NodeId>
     ensures { result ≡ link_within count link }
 {
-    if (link as usize) < count { link } else { 0 }
+    link.filter(|k| (*k as usize) < count)
 }
 
-// Ties a new node to its parent, whose last child was `last`, or 0.
-fn tie(nodes: &mut [Node], parent: NodeId, last: NodeId, new: NodeId)
+// Ties a new node to its parent, behind its last child if it has one.
+fn tie(nodes: &mut [Node], parent: NodeId, last: Option<NodeId>, new: NodeId)
     requires parent { parent < length nodes.old }
-    requires last { last < length nodes.old }
+    requires last { ForSome last (λ k. k < length nodes.old) }
     ensures { nodes.new ≡ tied nodes.old parent last new }
 {
-    if last == 0 {
-        nodes[parent as usize].first_child = new;
-    } else {
-        nodes[last as usize].next_sibling = new;
+    match last {
+        Some(k) => nodes[k as usize].next_sibling = Some(new),
+        None => nodes[parent as usize].first_child = Some(new),
     }
-    nodes[parent as usize].last_child = new;
+    nodes[parent as usize].last_child = Some(new);
 }

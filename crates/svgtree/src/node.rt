@@ -1,22 +1,22 @@
 ghost use Rattle.std.specs.Prelude.{◌≡◌};
-ghost use Rattle.svgtree.specs.Memory.{fresh};
+ghost use Rattle.svgtree.specs.Memory.{fresh, value_changed};
 
 use crate::limits::Level;
-use element::{ATTRIBUTES, Element, Kind};
+use element::{Attribute, Element, Kind, Value};
 
 /// The type of a node's number; the root's is 0.
 pub type NodeId = u32;
 
 /// A node: its element, its parent and its level, and links to its first and last child and its next sibling.
-/// A link is a number above the node's own, or 0 where there is none. The root's parent is 0.
+/// A link leads to a number above the node's own. The root's parent is 0 and means nothing.
 #[derive(Clone, Copy)]
 pub struct Node {
     pub element: Element,
     pub parent: NodeId,
     pub level: Level,
-    pub first_child: NodeId,
-    pub last_child: NodeId,
-    pub next_sibling: NodeId,
+    pub first_child: Option<NodeId>,
+    pub last_child: Option<NodeId>,
+    pub next_sibling: Option<NodeId>,
 }
 
 impl Node {
@@ -25,15 +25,22 @@ impl Node {
         ensures { result ≡ fresh kind parent level }
     {
         Node {
-            element: Element {
-                kind,
-                attributes: [None; ATTRIBUTES],
-            },
+            element: Element::new(kind),
             parent,
             level,
-            first_child: 0,
-            last_child: 0,
-            next_sibling: 0,
+            first_child: None,
+            last_child: None,
+            next_sibling: None,
+        }
+    }
+
+    /// The node with this value of the attribute, or without one.
+    pub(crate) fn with(self, attribute: Attribute, value: Option<Value>) -> Node
+        ensures { result ≡ value_changed self attribute value }
+    {
+        Node {
+            element: self.element.with(attribute, value),
+            ..self
         }
     }
 }

@@ -2,15 +2,15 @@ use Rattle.std.proofs.Common.{◌∙◌}
 use Rattle.feed.proofs.Delivering.{left_cleared, left_as_is, refused, accepted, script, marks, groups}
 use Rattle.feed.proofs.feed.Goals as goal
 
-pub returns-then-refused : goal.returns-then-refused
-returns-then-refused g c =
+pub returns-then-is_err : goal.returns-then-is_err
+returns-then-is_err g c =
     let of = g.S.Sink.meaning in
     let m = of c.args.sink.now in
     let rs = c.args.records.now in
     let r = c.draw-drawn.result in
     let n = of c.clear.new.self in
     let answer = c.draw-drawn.ensures.answer in
-    let after = c.clear.ensures ∙ left_cleared r (of c.draw-drawn.new.sink) c.if-refused.ensures.value ∙ c.draw-drawn.ensures.after in
+    let after = c.clear.ensures ∙ left_cleared r (of c.draw-drawn.new.sink) c.if-is_err.ensures.value ∙ c.draw-drawn.ensures.after in
     record {
       answer = answer;
       after = after;
@@ -21,15 +21,15 @@ returns-then-refused g c =
       groups = groups m rs r n answer after;
     }
 
-pub returns-else-refused : goal.returns-else-refused
-returns-else-refused g c =
+pub returns-else-is_err : goal.returns-else-is_err
+returns-else-is_err g c =
     let of = g.S.Sink.meaning in
     let m = of c.args.sink.now in
     let rs = c.args.records.now in
     let r = c.draw-drawn.result in
     let n = of c.draw-drawn.new.sink in
     let answer = c.draw-drawn.ensures.answer in
-    let after = left_as_is r n c.if-refused.ensures.value ∙ c.draw-drawn.ensures.after in
+    let after = left_as_is r n c.if-is_err.ensures.value ∙ c.draw-drawn.ensures.after in
     record {
       answer = answer;
       after = after;

@@ -1,25 +1,13 @@
 ghost use Rattle.std.specs.Prelude.{◌≡◌, false, [], length};
 ghost use Rattle.sink.specs.Meaning.{unlayered, limit_of};
-ghost use Rattle.group_table.specs.Table.{meaning_of, places_left};
+ghost use Rattle.group_table.specs.Table.{meaning_of};
 
-use super::GroupTable;
-use crate::bits::{GroupBits, MarkBits};
+use super::{GroupTable, Turn};
 use crate::entries::Entries;
 use crate::entry::{Entry, Item};
+use crate::packed::{GroupBits, MarkBits};
 use record::{Group, Mark, Record};
-use sink::{Sink, SinkFault};
-
-/// The most places of a table, whatever its memory.
-const MOST_PLACES: usize = 65_535;
-
-/// The most groups that are open at once.
-const MOST_OPEN: usize = 112;
-
-/// The places that an open uses: its own and its close's.
-const OPEN_PLACES: usize = 2;
-
-/// The places that a mark uses.
-const MARK_PLACES: usize = 1;
+use sink::{Room, Sink, SinkFault};
 
 impl GroupTable {
     /// An empty table, whatever its memory held. It has as many places as entries, up to 65,535.
@@ -29,10 +17,7 @@ impl GroupTable {
     {
         GroupTable {
             entries: Entries { memory, count: 0 },
-            nested: 0,
-            turn: false,
-            inside: None,
-            last: None,
+            turn: None,
         }
     }
 
@@ -40,22 +25,8 @@ impl GroupTable {
     pub fn into_memory(self) -> Vec<Entry>
         ensures { result ≡ self.entries.memory }
     {
-        let GroupTable {
-            entries,
-            nested: _,
-            turn: _,
-            inside: _,
-            last: _,
-        } = self;
-        let Entries { memory, count: _ } = entries;
+        let Entries { memory, count: _ } = self.entries;
         memory
-    }
-
-    // How many places are left.
-    fn places_left(&self) -> usize
-        ensures { result ≡ places_left self.now }
-    {
-        self.entries.memory.len().min(MOST_PLACES) - (self.entries.count + self.nested)
     }
 }
 
@@ -64,82 +35,63 @@ impl Sink for GroupTable {
 
     fn clear(&mut self) {
         self.entries.count = 0;
-        self.nested = 0;
-        self.turn = false;
-        self.inside = None;
-        self.last = None;
+        self.turn = None;
     }
 
     fn begin(&mut self) -> Result<(), SinkFault> {
         self.clear();
-        self.turn = true;
+        self.turn = Some(Turn {
+            room: Room::new(self.entries.memory.len()),
+            inside: None,
+            last: None,
+        });
         Ok(())
     }
 
     fn open(&mut self, group: Group) -> Result<(), SinkFault> {
-        if !self.turn {
-            return Err(SinkFault::OutOfTurn);
-        }
-        if !group.is_good() {
-            return Err(SinkFault::NotGood);
-        }
-        if self.nested >= MOST_OPEN {
-            return Err(SinkFault::TooDeep);
-        }
-        if self.places_left() < OPEN_PLACES {
-            return Err(SinkFault::NoPlaces);
-        }
-        let (inside, last) = (self.inside, self.last);
-        let place = self
-            .entries
-            .add_child(Item::Opened(GroupBits::pack(group)), inside, last);
-        self.nested += 1;
-        self.inside = Some(place);
-        self.last = None;
+        let turn = self.turn.ok_or(SinkFault::OutOfTurn)?;
+        let room = turn.room.open(group)?;
+        let item = Item::Open(GroupBits::pack(group));
+        let place = self.entries.add_child(item, turn.inside, turn.last);
+        self.turn = Some(Turn {
+            room,
+            inside: Some(place),
+            last: None,
+        });
         Ok(())
     }
 
     fn mark(&mut self, mark: Mark) -> Result<(), SinkFault> {
-        if !self.turn {
-            return Err(SinkFault::OutOfTurn);
-        }
-        if !mark.is_good() {
-            return Err(SinkFault::NotGood);
-        }
-        if self.places_left() < MARK_PLACES {
-            return Err(SinkFault::NoPlaces);
-        }
-        let (inside, last) = (self.inside, self.last);
-        let place = self
-            .entries
-            .add_child(Item::Marked(MarkBits::pack(mark)), inside, last);
-        self.last = Some(place);
+        let turn = self.turn.ok_or(SinkFault::OutOfTurn)?;
+        let room = turn.room.mark(mark)?;
+        let item = Item::Mark(MarkBits::pack(mark));
+        let place = self.entries.add_child(item, turn.inside, turn.last);
+        self.turn = Some(Turn {
+            room,
+            last: Some(place),
+            ..turn
+        });
         Ok(())
     }
 
     fn close(&mut self) -> Result<(), SinkFault> {
-        if !self.turn {
-            return Err(SinkFault::OutOfTurn);
-        }
-        let Some(group) = self.inside else {
-            return Err(SinkFault::OutOfTurn);
-        };
+        let turn = self.turn.ok_or(SinkFault::OutOfTurn)?;
+        let room = turn.room.close()?;
+        let group = turn.inside.unwrap();
         let outside = self.entries.parent_at(group);
-        self.entries.add(Item::Closed, Some(group));
-        self.nested -= 1;
-        self.inside = outside;
-        self.last = Some(group);
+        self.entries.add(Item::Close, Some(group));
+        self.turn = Some(Turn {
+            room,
+            inside: outside,
+            last: Some(group),
+        });
         Ok(())
     }
 
     fn end(&mut self) -> Result<(), SinkFault> {
-        if !self.turn {
-            return Err(SinkFault::OutOfTurn);
-        }
-        if self.nested != 0 {
-            return Err(SinkFault::OutOfTurn);
-        }
-        self.turn = false;
+        let turn = self.turn.ok_or(SinkFault::OutOfTurn)?;
+        turn.room.end()?;
+        self.turn = None;
         Ok(())
     }
 
@@ -148,10 +100,10 @@ impl Sink for GroupTable {
     }
 
     fn record(&self, n: usize) -> Option<Record> {
-        Some(self.entries.read(n)?.item.record())
+        Some(self.entries.read(n)?.record())
     }
 
     fn depth(&self) -> Option<usize> {
-        if self.turn { Some(self.nested) } else { None }
+        Some(self.turn?.room.depth())
     }
 }

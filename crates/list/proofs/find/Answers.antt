@@ -1,20 +1,15 @@
-use Rattle.std.proofs.Common.{ℕ, Some, None, sym, ◌∙◌, arith, below_more}
+use Rattle.std.proofs.Common.{rules, tests, ◌≡◌, ◌∙◌}
+use Rattle.std.proofs.lemmas.Iterator.{YieldsList-from_slice, IsFirst-from_position}
 use Rattle.list.specs.Bounded.{used}
-use Rattle.list.specs.Places.{Has}
-use Rattle.list.proofs.Places.{used_has, has_used, has_inside, found_place}
+use Rattle.list.specs.Places.{Found}
+use Rattle.list.proofs.Places.{first_found, found_place}
 use Rattle.list.proofs.find.Goals as goal
 
-pub returns-then-id-wanted : goal.returns-then-id-wanted
-returns-then-id-wanted g c =
-    let has : Has g.T.Numbered.number c.args.wanted (used c.args.items.now c.args.count) c.loop-i.i = used_has g.T.Numbered.number c.args.wanted c.args.items.now c.args.count c.loop-i.i c.index-items-i.result (omega arith) c.index-items-i.is (sym c.id.ensures ∙ c.if-id-wanted.true) in
-    record { answer = found_place g.T.Numbered.number c.args.wanted (used c.args.items.now c.args.count) (Some c.loop-i.i) (has, c.loop-i.invariant); first = (has, c.loop-i.invariant) }
-
-pub loop-i-preserved : goal.loop-i-preserved
-loop-i-preserved g c =
-    below_more (λ k. Has g.T.Numbered.number c.args.wanted (used c.args.items.now c.args.count) k → ⊥) c.loop-i.i c.loop-i.invariant
-    (λ has. c.if-id-wanted.false (c.id.ensures ∙ has_used g.T.Numbered.number c.args.wanted c.args.items.now c.args.count c.loop-i.i c.index-items-i.result (omega arith) c.index-items-i.is has))
-
+-- what the closure answers of a record is whether it has the number
 pub returns : goal.returns
 returns g c =
-    let none : (k : ℕ) → Has g.T.Numbered.number c.args.wanted (used c.args.items.now c.args.count) k → ⊥ = λ k has. c.loop-i.invariant k (omega (arith, has_inside g.T.Numbered.number c.args.wanted c.args.items.now c.args.count k has)) has in
-    record { answer = found_place g.T.Numbered.number c.args.wanted (used c.args.items.now c.args.count) None none; first = none }
+    let first : Found g.T.Numbered.number c.args.wanted (used c.args.items.now c.args.count) c.position.result =
+    first_found _ _ _ _
+    (IsFirst-from_position _ _ c.position.result (λ x. g.T.Numbered.number x ≡ c.args.wanted) (λ x. g.T.Numbered.number x ≡ c.args.wanted → ⊥)
+    c.position.ensures.ran (YieldsList-from_slice _ (c.iter.ensures.rest ∙ c.in_use-records.ensures)) (λ x q k. search (rules, tests)) (λ x q k. search (rules, tests))) in
+    record { answer = found_place _ _ _ _ first; first = first }

@@ -1,8 +1,8 @@
-use Rattle.std.proofs.Common.{rules}
-use Rattle.list.proofs.Bounded.{used_set}
+use Rattle.std.proofs.Common.{rules, arith}
+use Rattle.std.proofs.Math.Seq.{take-set-lt}
 use Rattle.list.proofs.replace.Goals as goal
 
-pub returns : goal.returns
-returns g c =
-    let e = used_set c.args.items.now c.args.count c.args.i c.args.x in
+pub returns-clause-effect : goal.returns-clause-effect
+returns-clause-effect g c =
+    let e = take-set-lt c.args.count c.args.items.now c.args.i c.args.x (omega arith) in
     search rules

@@ -3,5 +3,5 @@ use Rattle.refusal.specs.Order.{first_of}
 use Rattle.refusal.proofs.first.Given as goal
 
 -- the checks that were passed over did not fail
-abbrev pub invariant-loop-check : goal.invariant-loop-check
-invariant-loop-check l = first_of l.checks ≡ first_of (drop l.check-index l.checks)
+abbrev pub invariant-loop-fails : goal.invariant-loop-fails
+invariant-loop-fails g l = first_of l.checks ≡ first_of (drop l.fails-index l.checks)

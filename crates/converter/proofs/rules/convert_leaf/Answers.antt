@@ -1,17 +1,13 @@
-use Rattle.std.proofs.Common.{◌≡◌, sym, subst}
-use Rattle.converter.specs.Rules.{convert_leaf}
-use Rattle.converter.proofs.Laws.{leaf_alone}
-use Rattle.converter.proofs.Goodness.{leaf_good}
-use Rattle.converter.specs.Laws.{Accepted, Alone, AllGood}
-use Rattle.element.specs.Attributes.{matrix_of}
+use Rattle.converter.specs.Rules.{bare}
+use Rattle.converter.specs.State.{ruled, framed}
+use Rattle.converter.proofs.Laws.{alone_spare}
+use Rattle.converter.proofs.Goodness.{good_spare, finite_identity}
 use Rattle.converter.proofs.rules.convert_leaf.Goals as goal
 
-pub returns : goal.returns
-unfolding convert_leaf
-returns c =
-    let e : c.if_finite.result ≡ convert_leaf c.args.element.now c.args.state.now = cc in
-    record {
-      rule = e;
-      own_matrix_alone = subst (λ r. Accepted r (λ d. Alone d.inner d.outer (matrix_of c.args.element.now))) (sym e) (leaf_alone c.args.element.now c.args.state.now);
-      groups_are_good = subst (λ r. Accepted r (AllGood c.args.element.now)) (sym e) (leaf_good c.args.element.now c.args.state.now);
-    }
+pub returns-clause-own_matrix_alone : goal.returns-clause-own_matrix_alone
+unfolding bare
+returns-clause-own_matrix_alone c = rw (c.spare_group.ensures, c.bare.ensures) (alone_spare _ _ _ _ (cc))
+
+pub returns-clause-groups_are_good : goal.returns-clause-groups_are_good
+unfolding bare ruled framed
+returns-clause-groups_are_good c = rw (c.spare_group.ensures, c.bare.ensures) (λ o. (tt, good_spare _ _ _ (cc) o, finite_identity))

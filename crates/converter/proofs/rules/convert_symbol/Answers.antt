@@ -1,18 +1,13 @@
-use Rattle.std.proofs.Common.{◌≡◌, None, sym, subst}
-use Rattle.converter.specs.declared.rules.Converted.{Converted}
-use Rattle.converter.specs.Rules.{convert_symbol}
-use Rattle.converter.specs.Laws.{Alone, AllGood}
-use Rattle.converter.proofs.Laws.{symbol_alone}
-use Rattle.converter.proofs.Goodness.{symbol_good}
+use Rattle.converter.specs.Rules.{bare}
+use Rattle.converter.specs.State.{ruled, framed}
+use Rattle.converter.proofs.Laws.{alone_spare}
+use Rattle.converter.proofs.Goodness.{good_spare, finite_identity}
 use Rattle.converter.proofs.rules.convert_symbol.Goals as goal
 
-pub returns : goal.returns
-unfolding convert_symbol
-returns c =
-    let r : Converted = record { outer = None; inner = c.spare_group-inner.result; inside = c.ruled.result } in
-    let e : r ≡ convert_symbol c.args.element.now c.args.state.now = cc in
-    record {
-      rule = e;
-      placing_alone = subst (λ r. Alone r.inner r.outer c.args.state.now.symbol_matrix) (sym e) (symbol_alone c.args.element.now c.args.state.now);
-      groups_are_good = λ f. subst (λ r. AllGood c.args.element.now r) (sym e) (symbol_good c.args.element.now c.args.state.now f);
-    }
+pub returns-clause-placing_alone : goal.returns-clause-placing_alone
+unfolding bare
+returns-clause-placing_alone c = rw (c.spare_group.ensures, c.bare.ensures) (alone_spare _ _ _ _ (cc))
+
+pub returns-clause-groups_are_good : goal.returns-clause-groups_are_good
+unfolding bare ruled framed
+returns-clause-groups_are_good c = rw (c.spare_group.ensures, c.bare.ensures) (λ f o. (tt, good_spare _ _ _ f o, finite_identity))

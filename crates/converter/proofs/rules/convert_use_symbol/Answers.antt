@@ -1,18 +1,15 @@
-use Rattle.std.proofs.Common.{◌≡◌, sym, subst}
-use Rattle.converter.specs.Rules.{convert_use_symbol}
-use Rattle.converter.proofs.Laws.{symbol_clips_to, use_own_then_symbol}
+use Rattle.std.proofs.Common.{arith}
+use Rattle.std.proofs.lemmas.Grind.{common_steps}
+use Rattle.converter.proofs.Laws.{symbol_clips_to, own_then_symbol}
 use Rattle.converter.proofs.Goodness.{use_symbol_good}
-use Rattle.converter.specs.Laws.{Accepted, SymbolClips, OwnThenSymbol, symbol_placing, AllGood}
-use Rattle.element.specs.Attributes.{matrix_of}
 use Rattle.converter.proofs.rules.convert_use_symbol.Goals as goal
 
-pub returns : goal.returns
-unfolding convert_use_symbol
-returns c =
-    let e : c.if_finite.result ≡ convert_use_symbol c.args.element.now c.args.symbol.now c.args.state.now = cc in
-    record {
-      rule = e;
-      clips_to_its_rectangle = subst (λ r. Accepted r (SymbolClips c.args.element.now c.args.symbol.now c.args.state.now)) (sym e) (symbol_clips_to c.args.element.now c.args.symbol.now c.args.state.now);
-      own_matrix_then_placing = subst (λ r. Accepted r (OwnThenSymbol (matrix_of c.args.element.now) (symbol_placing c.args.element.now c.args.symbol.now c.args.state.now))) (sym e) (use_own_then_symbol c.args.element.now c.args.symbol.now c.args.state.now);
-      groups_are_good = subst (λ r. Accepted r (AllGood c.args.element.now)) (sym e) (use_symbol_good c.args.element.now c.args.symbol.now c.args.state.now);
-    }
+pub returns-clause-clips_to_its_rectangle : goal.returns-clause-clips_to_its_rectangle
+returns-clause-clips_to_its_rectangle c = rw (c.use_symbol_groups.ensures, c.symbol_clip.ensures, c.resolve_rect-rect.ensures) (symbol_clips_to _ _ _ _ _)
+
+pub returns-clause-own_matrix_then_placing : goal.returns-clause-own_matrix_then_placing
+returns-clause-own_matrix_then_placing c =
+    rw (c.use_symbol_groups.ensures, c.viewbox_transform.ensures, c.resolve_rect-rect.ensures, c.fitted_view_box-view_box.ensures) (own_then_symbol _ _ _ _ _)
+
+pub returns-clause-groups_are_good : goal.returns-clause-groups_are_good
+returns-clause-groups_are_good c = rw (c.use_symbol_groups.ensures, c.symbol_clip.ensures) (use_symbol_good _ _ _ _ _ _ (grind (arith, common_steps)))

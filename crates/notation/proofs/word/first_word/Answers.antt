@@ -1,14 +1,9 @@
-use Rattle.std.proofs.Common.{◌≡◌, ℕ, ◌+◌, ◌<◌, true, false, List, length, get_or, take, drop, sym, ap, ◌∙◌, arith}
-use Rattle.std.specs.Char.{is_ascii_whitespace}
+use Rattle.std.proofs.Common.{get_or, take, drop, sym, ap, ◌∙◌, arith}
 use Rattle.std.proofs.lemmas.Str.Pattern.{starts_char}
 use Rattle.std.proofs.lemmas.Bool.{both_ways, ne_eqb}
-use Rattle.notation.specs.Words.{past_blanks, before_blank, from_blank, first_word, past_word}
-use Rattle.notation.proofs.Parting.{past_blanks_is, before_blank_is, from_blank_is, word_boundary, nothing_more, some_more}
+use Rattle.notation.specs.Words.{before_blank, from_blank, first_word, past_word}
+use Rattle.notation.proofs.Parting.{trimmed, blank_at, before_blank_is, from_blank_is, nothing_more, some_more}
 use Rattle.notation.proofs.word.first_word.Goals as goal
-
--- what `trim_ascii_start` leaves
-trimmed : (line rest : List ℕ) → (n : ℕ) × (rest ≡ drop n line) × (length rest + n ≡ length line) × ((i : ℕ) → i < n → is_ascii_whitespace (get_or line i 0) ≡ true) × (n < length line → is_ascii_whitespace (get_or line n 0) ≡ false) → past_blanks line ≡ rest
-trimmed line rest v = past_blanks_is line v.0 (omega (arith, v.2)) v.3 v.4 ∙ sym v.1
 
 pub returns-then-starts_with : goal.returns-then-starts_with
 returns-then-starts_with c =
@@ -17,9 +12,6 @@ returns-then-starts_with c =
     let n = nothing_more c.args.line.now (ap (λ l. get_or l 0 0) unread ∙ hash) in
     record { word = n.0; rest = n.1 }
 
-pub split_at-requires : goal.split_at-requires
-split_at-requires c = word_boundary _ _ (c.word_len.ensures ∙ ap (λ l. length (before_blank l)) c.as_bytes.ensures.value)
-
 pub returns : goal.returns
 unfolding first_word past_word
 returns c =
@@ -27,7 +19,7 @@ returns c =
     let past = trimmed _ _ c.trim_ascii_start-unread.ensures.value in
     let no_hash = (starts_char 35 _ _ c.starts_with.ensures.cases (omega arith) (omega arith)).1 in
     let unread = some_more c.args.line.now (ne_eqb _ _ (λ e. both_ways _ c.if-starts_with.false (no_hash (sym (ap (λ l. get_or l 0 0) past) ∙ e)))) ∙ past in
-    let long = c.word_len.ensures ∙ ap (λ l. length (before_blank l)) c.as_bytes.ensures.value in
+    let long = c.word_len.ensures ∙ ap blank_at c.as_bytes.ensures.value in
     record {
       word = c.split_at.ensures.front ∙ ap (λ n. take n rest) long ∙ sym (before_blank_is rest) ∙ ap before_blank (sym unread);
       rest = c.split_at.ensures.back ∙ ap (λ n. drop n rest) long ∙ sym (from_blank_is rest) ∙ ap from_blank (sym unread);

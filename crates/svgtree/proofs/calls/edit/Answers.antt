@@ -1,20 +1,24 @@
-use Rattle.svgtree.proofs.Running.{stands_written, stands_past, stands_last}
+use Rattle.std.proofs.Common.{rules, ◌≡◌, length, arith}
+use Rattle.std.proofs.lemmas.List.{set-get_or}
+use Rattle.svgtree.proofs.Running.{stands_first, stands_written, stands_past, stands_last}
 use Rattle.svgtree.proofs.calls.edit.Goals as goal
-use Rattle.svgtree.proofs.calls.edit.Goals.{then-i-answers, else-i-answers}
 
-pub loop-i-preserved : goal.loop-i-preserved
-loop-i-preserved c =
-    elim c.if-i-answers.branch [
-      | then-i-answers w ↦
-          rw w.answers-is
-          (stands_written c.args.document.now c.args.nodes.now c.args.calls.now c.args.answers.now c.loop-i.i c.loop-i.document c.loop-i.nodes c.loop-i.answers c.loop-i.invariant
-          c.loop-i-test.true c.call-answer.result c.call-answer.new.self c.call-answer.new.nodes c.call-answer.ensures c.call-answer.auto.nodes w.if-i-answers.true)
-      | else-i-answers w ↦
-          rw w.answers-is
-          (stands_past c.args.document.now c.args.nodes.now c.args.calls.now c.args.answers.now c.loop-i.i c.loop-i.document c.loop-i.nodes c.loop-i.answers c.loop-i.invariant
-          c.loop-i-test.true c.call-answer.result c.call-answer.new.self c.call-answer.new.nodes c.call-answer.ensures c.call-answer.auto.nodes w.if-i-answers.false)
-    ]
+pub loop-place-init : goal.loop-place-init
+loop-place-init c = search (rules, stands_first)
+
+pub returns-in_default : goal.returns-in_default
+returns-in_default c = rw set-get_or (stands_last _ _ _ _ _ _ _ _ _ c.loop-place.invariant c.in_default.ensures.steps.0)
+
+pub loop-place-preserved : goal.loop-place-preserved
+loop-place-preserved c = stands_written _ _ _ _ _ _ _ _ _ _ _ c.loop-place.invariant c.in-Some.ensures.steps _ _ _ c.call.ensures c.call.auto.nodes (omega arith)
+
+pub loop-call-init : goal.loop-call-init
+loop-call-init c =
+    let filled : length c.loop-place.answers ≡ c.loop-place.place-index = omega arith in
+    rw (filled, c.into_iter-call-iterator.ensures.into_iter_gives) c.loop-place.invariant
+
+pub loop-call-preserved : goal.loop-call-preserved
+loop-call-preserved c = stands_past _ _ _ _ _ _ _ _ _ _ _ c.loop-call.invariant c.in-Some-call.ensures.steps _ _ _ c.call-in-loop-call.ensures c.call-in-loop-call.auto.nodes (omega arith)
 
 pub returns : goal.returns
-returns c =
-    stands_last c.args.document.now c.args.nodes.now c.args.calls.now c.args.answers.now c.loop-i.i c.loop-i.document c.loop-i.nodes c.loop-i.answers c.loop-i.invariant c.loop-i-test.false
+returns c = stands_last _ _ _ _ _ _ _ _ _ c.loop-call.invariant c.in-None.ensures.steps.0

@@ -1,27 +1,34 @@
-use Rattle.std.proofs.Common.{◌-◌, vec_items, vec_capacity, arith}
-use Rattle.record.specs.declared.Record.TheVariants.{Close}
-use Rattle.sink_tests.proofs.Noting.{sound_push, close_none, close_done}
+use Rattle.std.proofs.Common.{vec_items, ap, ◌∙◌, Err, arith}
+use Rattle.std.proofs.lemmas.Result.{err_from_is_err_and}
+use Rattle.record.specs.declared.Event.TheVariants as variants
+use Rattle.sink.proofs.Calling.{close_refused}
+use Rattle.sink_tests.proofs.Noting.{meaning_of, room_is, close_added, within, kept, done}
 use Rattle.sink_tests.proofs.notebook.NotebookSink.close.Goals as goal
 
-pub returns-then-self-eq0 : goal.returns-then-self-eq0
-returns-then-self-eq0 c =
+pub returns-in_err-room : goal.returns-in_err-room
+returns-in_err-room c =
     let s = c.args.self.now in
-    let q = close_none (vec_items s.records) (vec_capacity s.records) s.limit s.nested s.ok s.turn c.if-not-self.false c.if-self-eq0.true in
+    let p = err_from_is_err_and c.from_residual-in_err-room.result c.from_residual-in_err-room.ensures.1 in
+    let fails = c.in_err-room.ensures (meaning_of s) (room_is s c.in_ok-turn.turn c.in_ok-turn.ensures.ok_part) in
+    let q = close_refused (meaning_of s) c.in_err-room.field-0.0 c.from_residual-in_err-room.result (p.1 ∙ ap (λ f. Err f) p.2) fails in
     record { answer = q.0; after = q.1 }
+
+pub push_reserved-requires : goal.push_reserved-requires
+push_reserved-requires c =
+    let s = c.args.self.now in
+    let added = close_added s c.in_ok-room.room (c.in_ok-room.ensures (meaning_of s) (room_is s c.in_ok-turn.turn c.in_ok-turn.ensures.ok_part)) in
+    omega (arith, within s variants.Close _ c.in_ok-room.room added, s.records.ok.0)
 
 pub invariant_of-self : goal.invariant_of-self
 invariant_of-self c =
     let s = c.args.self.now in
     let p = c.push_reserved.ensures in
-    let some = c.if-self-eq0.false in
-    let room = s.ok.0 in
-    let bal = s.ok.3 in
-    let q = sound_push (vec_items s.records) (vec_capacity s.records) s.limit s.nested s.ok Close (s.nested - 1) (omega (arith, some, room)) (omega (arith, some, bal)) in
-    record { ok = rw (p.items, p.capacity) q }
+    let added = close_added s c.in_ok-room.room (c.in_ok-room.ensures (meaning_of s) (room_is s c.in_ok-turn.turn c.in_ok-turn.ensures.ok_part)) in
+    record { ok = rw p.capacity s.ok; roomy = kept s variants.Close _ c.in_ok-room.room added (vec_items c.push_reserved.new.self) p.items }
 
 pub returns : goal.returns
 returns c =
     let s = c.args.self.now in
-    let p = c.push_reserved.ensures in
-    let q = close_done (vec_items s.records) (vec_capacity s.records) s.limit s.nested s.ok s.turn c.if-not-self.false c.if-self-eq0.false in
-    record { answer = q.0; after = rw p.items q.1 }
+    let added = close_added s c.in_ok-room.room (c.in_ok-room.ensures (meaning_of s) (room_is s c.in_ok-turn.turn c.in_ok-turn.ensures.ok_part)) in
+    let q = done s variants.Close _ c.in_ok-room.room added (vec_items c.push_reserved.new.self) c.push_reserved.ensures.items in
+    record { answer = q.0; after = q.1 }

@@ -1,15 +1,19 @@
-use Rattle.std.proofs.Common.{vec_items, vec_capacity}
-use Rattle.sink_tests.proofs.Noting.{end_others, end_done}
+use Rattle.std.proofs.Common.{ap, ◌∙◌, Err}
+use Rattle.std.proofs.lemmas.Result.{err_from_is_err_and}
+use Rattle.sink.proofs.Calling.{end_refused, end_fails, end_passes}
+use Rattle.sink_tests.proofs.Noting.{meaning_of, room_is, ended}
 use Rattle.sink_tests.proofs.notebook.NotebookSink.end.Goals as goal
 
-pub returns-then-self-ne0 : goal.returns-then-self-ne0
-returns-then-self-ne0 c =
+pub returns-in_err-end : goal.returns-in_err-end
+returns-in_err-end c =
     let s = c.args.self.now in
-    let q = end_others (vec_items s.records) (vec_capacity s.records) s.limit s.nested s.ok s.turn c.if-not-self.false c.if-self-ne0.true in
+    let p = err_from_is_err_and c.from_residual-in_err-end.result c.from_residual-in_err-end.ensures.1 in
+    let fails = end_fails (meaning_of s) c.in_err-end.field-0.0 (c.in_err-end.ensures (meaning_of s) (room_is s c.in_ok-turn.turn c.in_ok-turn.ensures.ok_part)) in
+    let q = end_refused (meaning_of s) c.in_err-end.field-0.0 c.from_residual-in_err-end.result (p.1 ∙ ap (λ f. Err f) p.2) fails in
     record { answer = q.0; after = q.1 }
 
 pub returns : goal.returns
 returns c =
     let s = c.args.self.now in
-    let q = end_done (vec_items s.records) (vec_capacity s.records) s.limit s.nested s.ok s.turn c.if-not-self.false c.if-self-ne0.false in
+    let q = ended s (end_passes (meaning_of s) c.in_ok-end.field-0 (c.in_ok-end.ensures (meaning_of s) (room_is s c.in_ok-turn.turn c.in_ok-turn.ensures.ok_part))) in
     record { answer = q.0; after = q.1 }

@@ -1,37 +1,34 @@
-use Rattle.std.proofs.Common.{◌+◌, vec_items, vec_capacity, sym, ◌∙◌, arith}
-use Rattle.record.specs.declared.Record.TheVariants.{Open}
-use Rattle.sink_tests.proofs.Noting.{sound_push, open_deep, open_full, open_done}
+use Rattle.std.proofs.Common.{vec_items, ap, ◌∙◌, Err, arith}
+use Rattle.std.proofs.lemmas.Result.{err_from_is_err_and}
+use Rattle.record.specs.declared.Event.TheVariants as variants
+use Rattle.sink.proofs.Calling.{open_refused}
+use Rattle.sink_tests.proofs.Noting.{meaning_of, room_is, open_added, within, kept, done}
 use Rattle.sink_tests.proofs.notebook.NotebookSink.open.Goals as goal
 
-pub returns-then-deepest : goal.returns-then-deepest
-returns-then-deepest c =
+pub returns-in_err-room : goal.returns-in_err-room
+returns-in_err-room c =
     let s = c.args.self.now in
-    let good = sym c.is_good.ensures ∙ c.if-not-is_good.false in
-    let q = open_deep (vec_items s.records) (vec_capacity s.records) s.limit s.nested s.ok s.turn c.if-not-self.false c.args.group good c.if-deepest.true in
+    let p = err_from_is_err_and c.from_residual-in_err-room.result c.from_residual-in_err-room.ensures.1 in
+    let fails = c.in_err-room.ensures (meaning_of s) (room_is s c.in_ok-turn.turn c.in_ok-turn.ensures.ok_part) in
+    let q = open_refused (meaning_of s) c.args.group c.in_err-room.field-0.0 c.from_residual-in_err-room.result (p.1 ∙ ap (λ f. Err f) p.2) fails in
     record { answer = q.0; after = q.1 }
 
-pub returns-then-full : goal.returns-then-full
-returns-then-full c =
+pub push_reserved-requires : goal.push_reserved-requires
+push_reserved-requires c =
     let s = c.args.self.now in
-    let good = sym c.is_good.ensures ∙ c.if-not-is_good.false in
-    let q = open_full (vec_items s.records) (vec_capacity s.records) s.limit s.nested s.ok s.turn c.if-not-self.false c.args.group good c.if-deepest.false (omega (arith, c.places_left-full.ensures, s.records.ok.0)) in
-    record { answer = q.0; after = q.1 }
+    let added = open_added s c.in_ok-room.room c.args.group (c.in_ok-room.ensures (meaning_of s) (room_is s c.in_ok-turn.turn c.in_ok-turn.ensures.ok_part)) in
+    omega (arith, within s (variants.Open c.args.group) _ c.in_ok-room.room added, s.records.ok.0)
 
 pub invariant_of-self : goal.invariant_of-self
 invariant_of-self c =
     let s = c.args.self.now in
     let p = c.push_reserved.ensures in
-    let left = c.places_left-full.ensures in
-    let enough = c.if-full.false in
-    let len = s.records.ok.0 in
-    let bal = s.ok.3 in
-    let q = sound_push (vec_items s.records) (vec_capacity s.records) s.limit s.nested s.ok (Open c.args.group) (s.nested + 1) (omega (arith, left, enough, len)) (omega (arith, bal)) in
-    record { ok = rw (p.items, p.capacity) q }
+    let added = open_added s c.in_ok-room.room c.args.group (c.in_ok-room.ensures (meaning_of s) (room_is s c.in_ok-turn.turn c.in_ok-turn.ensures.ok_part)) in
+    record { ok = rw p.capacity s.ok; roomy = kept s (variants.Open c.args.group) _ c.in_ok-room.room added (vec_items c.push_reserved.new.self) p.items }
 
 pub returns : goal.returns
 returns c =
     let s = c.args.self.now in
-    let p = c.push_reserved.ensures in
-    let good = sym c.is_good.ensures ∙ c.if-not-is_good.false in
-    let q = open_done (vec_items s.records) (vec_capacity s.records) s.limit s.nested s.ok s.turn c.if-not-self.false c.args.group good c.if-deepest.false (omega (arith, c.places_left-full.ensures, s.records.ok.0)) in
-    record { answer = q.0; after = rw p.items q.1 }
+    let added = open_added s c.in_ok-room.room c.args.group (c.in_ok-room.ensures (meaning_of s) (room_is s c.in_ok-turn.turn c.in_ok-turn.ensures.ok_part)) in
+    let q = done s (variants.Open c.args.group) _ c.in_ok-room.room added (vec_items c.push_reserved.new.self) c.push_reserved.ensures.items in
+    record { answer = q.0; after = q.1 }

@@ -1,43 +1,26 @@
-use Rattle.std.proofs.Common.{◌≡◌, ◌<◌, length, sym, ap, ◌∙◌, arith}
-use Rattle.std.proofs.lemmas.List.{length-set}
-use Rattle.svgtree.proofs.Placing.{add_unknown, add_fails, add_passes, parent_inside, last_inside}
+use Rattle.std.proofs.Common.{rules, ◌≡◌, Some, Ok, arith}
+use Rattle.std.specs.List.{slice_get}
+use Rattle.std.proofs.lemmas.Result.{err_from_is_err_and}
+use Rattle.svgtree.specs.Memory.{nodes_of}
+use Rattle.svgtree.proofs.Reading.{nodes_count, found_inside}
+use Rattle.svgtree.proofs.Placing.{add_fails, add_passes}
 use Rattle.svgtree.proofs.document.Document.add.Goals as goal
 
-pub returns-in_default : goal.returns-in_default
-returns-in_default c = add_unknown c.args.self.now c.args.nodes.now c.args.parent c.node.result c.node.ensures c.in_default.not-Some c.args.kind
+pub returns-in_err-first : goal.returns-in_err-first
+returns-in_err-first c =
+    let read : slice_get (nodes_of c.args.self.now c.args.nodes.now) c.args.parent ≡ Some c.in_ok-above.above = grind arith in
+    let p = err_from_is_err_and c.from_residual-in_err-first.result c.from_residual-in_err-first.ensures.1 in
+    rw (p.1, p.2)
+    (add_fails _ _ _ _ read _ c.used-count.ensures _ c.link_within-last.ensures _ (rw (c.takes_child.ensures, c.is_some.ensures, c.min.ensures) at c.first.ensures) _ _ c.in_err-first.was)
 
-pub returns-in-Some-first : goal.returns-in-Some-first
-returns-in-Some-first c =
-    add_fails c.args.self.now c.args.nodes.now c.args.parent c.node.result c.in-Some.above c.node.ensures c.in-Some.is
-    c.used-count.result c.used-count.ensures c.link_within-last.result c.link_within-last.ensures
-    c.takes_child.result c.takes_child.ensures c.min.result c.min.ensures
-    c.args.kind c.in-Some-first.refusal (sym c.first.ensures ∙ c.in-Some-first.is)
+pub tie-requires-clause-parent : goal.tie-requires-clause-parent
+tie-requires-clause-parent c =
+    let read : slice_get (nodes_of c.args.self.now c.args.nodes.now) c.args.parent ≡ Some c.in_ok-above.above = grind arith in
+    omega (arith, found_inside c.args.self.now c.args.nodes.now c.args.parent c.in_ok-above.above read, nodes_count c.args.self.now c.args.nodes.now)
 
-pub tie-requires : goal.tie-requires
-tie-requires c =
-    let long : length c.add.new.items ≡ length c.args.nodes.now = ap length c.in-Ok.ensures.effect.memory ∙ length-set c.args.nodes.now c.used-count.result c.new.result in
-    let free : c.used-count.result < length c.args.nodes.now = c.in-Ok.ensures.effect.free in
-    record {
-      parent =
-          omega (
-            arith,
-            parent_inside c.args.self.now c.args.nodes.now c.args.parent c.node.result c.in-Some.above c.node.ensures c.in-Some.is
-                c.used-count.result c.used-count.ensures c.link_within-last.result c.link_within-last.ensures
-                c.takes_child.result c.takes_child.ensures c.min.result c.min.ensures,
-          );
-      last =
-          omega (
-            arith,
-            last_inside c.args.self.now c.args.nodes.now c.args.parent c.node.result c.in-Some.above c.node.ensures c.in-Some.is
-                c.used-count.result c.used-count.ensures c.link_within-last.result c.link_within-last.ensures
-                c.takes_child.result c.takes_child.ensures c.min.result c.min.ensures,
-          );
-    }
-
-pub returns-in-Ok : goal.returns-in-Ok
-returns-in-Ok c =
-    add_passes c.args.self.now c.args.nodes.now c.args.parent c.node.result c.in-Some.above c.node.ensures c.in-Some.is
-    c.used-count.result c.used-count.ensures c.link_within-last.result c.link_within-last.ensures
-    c.takes_child.result c.takes_child.ensures c.min.result c.min.ensures
-    c.args.kind c.new.result c.in-Ok.more c.add.new.items c.tie.new.nodes (sym c.first.ensures ∙ c.in_default-first.is)
-    c.new.ensures c.in-Ok.ensures.effect c.tie.ensures
+pub returns : goal.returns
+returns c =
+    let added : c.add.result ≡ Ok c.in_ok-more.more = search rules in
+    let read : slice_get (nodes_of c.args.self.now c.args.nodes.now) c.args.parent ≡ Some c.in_ok-above.above = grind arith in
+    add_passes _ _ _ _ read _ c.used-count.ensures _ c.link_within-last.ensures _ (rw (c.takes_child.ensures, c.is_some.ensures, c.min.ensures) at c.first.ensures) _
+    _ _ _ _ c.in_ok-first.was c.new.ensures (rw added at c.add.ensures.effect) c.tie.ensures

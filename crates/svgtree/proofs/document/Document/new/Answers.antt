@@ -1,8 +1,8 @@
-use Rattle.std.proofs.Common.{sym, ◌∙◌}
+use Rattle.std.proofs.Common.{rules, ◌≡◌, Ok}
 use Rattle.svgtree.proofs.Beginning.{begins}
 use Rattle.svgtree.proofs.document.Document.new.Goals as goal
 
-pub returns-in-Ok : goal.returns-in-Ok
-returns-in-Ok c =
-    begins (record { dpi = c.args.dpi; font_size = c.args.font_size }) c.args.nodes.now c.are_good.result c.new.result c.in-Ok.count c.add.new.items
-    c.are_good.ensures (sym c.first.ensures ∙ c.in_default.is) c.new.ensures c.in-Ok.ensures.effect
+pub returns : goal.returns
+returns c =
+    let added : c.add.result ≡ Ok c.in_ok-count.count = search rules in
+    begins _ _ _ (rw (c.is_empty.ensures, c.are_good.ensures) at c.first.ensures) c.in_ok-first.was _ _ (rw (added, c.new.ensures) at c.add.ensures.effect)

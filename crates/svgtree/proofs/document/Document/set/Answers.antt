@@ -1,20 +1,19 @@
-use Rattle.std.proofs.Common.{sym, ◌∙◌}
-use Rattle.svgtree.proofs.Editing.{set_unknown, set_refused, set_done}
+use Rattle.std.proofs.Common.{◌≡◌, Some, arith}
+use Rattle.std.specs.List.{slice_get}
+use Rattle.std.proofs.lemmas.Result.{err_from_is_err_and}
+use Rattle.svgtree.specs.Memory.{nodes_of}
+use Rattle.svgtree.proofs.Editing.{set_fails, set_done}
 use Rattle.svgtree.proofs.document.Document.set.Goals as goal
 
-pub returns-in_default : goal.returns-in_default
-returns-in_default c =
-    set_unknown c.args.self.now c.args.nodes.now c.args.node c.args.attribute c.node.result c.node.ensures c.in_default.not-Some c.args.value
-
-pub returns-in-Some-first : goal.returns-in-Some-first
-returns-in-Some-first c =
-    set_refused c.args.self.now c.args.nodes.now c.args.node c.args.attribute c.node.result c.in-Some.found c.node.ensures c.in-Some.is
-    c.takes-taken.result c.takes-taken.ensures c.args.value c.has_form.result c.in_range.result c.has_form.ensures c.in_range.ensures
-    c.in-Some-first.refusal (sym c.first.ensures ∙ c.in-Some-first.is)
+pub returns-in_err-first : goal.returns-in_err-first
+returns-in_err-first c =
+    let read : slice_get (nodes_of c.args.self.now c.args.nodes.now) c.args.node ≡ Some c.in_ok-found.found = grind arith in
+    let p = err_from_is_err_and c.from_residual-in_err-first.result c.from_residual-in_err-first.ensures.1 in
+    rw (p.1, p.2)
+    (set_fails _ _ _ _ _ read _ _ (rw (c.takes-taken.ensures, c.has_form.ensures, c.in_range.ensures) at c.first.ensures) _ c.in_err-first.was)
 
 pub returns : goal.returns
 returns c =
-    set_done c.args.self.now c.args.nodes.now c.args.node c.args.attribute c.node.result c.in-Some.found c.node.ensures c.in-Some.is
-    c.takes-taken.result c.takes-taken.ensures c.args.value c.has_form.result c.in_range.result c.has_form.ensures c.in_range.ensures
-    (sym c.first.ensures ∙ c.in_default-first.is)
-    c.with_attribute-changed.result c.replace.result c.replace.new.items c.with_attribute-changed.ensures c.replace.ensures.effect
+    let read : slice_get (nodes_of c.args.self.now c.args.nodes.now) c.args.node ≡ Some c.in_ok-found.found = grind arith in
+    set_done _ _ _ _ _ read _ _ (rw (c.takes-taken.ensures, c.has_form.ensures, c.in_range.ensures) at c.first.ensures) c.in_ok-first.was
+    _ _ (rw c.with-changed.ensures at c.replace.ensures.effect)

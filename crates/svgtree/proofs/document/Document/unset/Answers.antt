@@ -1,17 +1,18 @@
-use Rattle.svgtree.proofs.Editing.{unset_unknown, unset_refused, unset_done}
+use Rattle.std.proofs.Common.{rules, ◌≡◌, true, false, eqb, Some, arith}
+use Rattle.std.specs.List.{slice_get}
+use Rattle.svgtree.specs.Allowed.{takes_attribute}
+use Rattle.svgtree.specs.Memory.{nodes_of}
+use Rattle.svgtree.proofs.Editing.{unset_fails, unset_done}
 use Rattle.svgtree.proofs.document.Document.unset.Goals as goal
-
-pub returns-in_default : goal.returns-in_default
-returns-in_default c =
-    unset_unknown c.args.self.now c.args.nodes.now c.args.node c.args.attribute c.node.result c.node.ensures c.in_default.not-Some
 
 pub returns-then-not-takes : goal.returns-then-not-takes
 returns-then-not-takes c =
-    unset_refused c.args.self.now c.args.nodes.now c.args.node c.args.attribute c.node.result c.in-Some.found c.node.ensures c.in-Some.is
-    c.takes.result c.takes.ensures c.if-not-takes.true
+    let read : slice_get (nodes_of c.args.self.now c.args.nodes.now) c.args.node ≡ Some c.in_ok-found.found = grind arith in
+    let left : takes_attribute (eqb c.args.node 0) c.in_ok-found.found.element.kind c.args.attribute ≡ false = search rules in
+    unset_fails _ _ _ _ _ read left
 
 pub returns : goal.returns
 returns c =
-    unset_done c.args.self.now c.args.nodes.now c.args.node c.args.attribute c.node.result c.in-Some.found c.node.ensures c.in-Some.is
-    c.takes.result c.takes.ensures c.if-not-takes.false
-    c.with_attribute-changed.result c.replace.result c.replace.new.items c.with_attribute-changed.ensures c.replace.ensures.effect
+    let read : slice_get (nodes_of c.args.self.now c.args.nodes.now) c.args.node ≡ Some c.in_ok-found.found = grind arith in
+    let taken : takes_attribute (eqb c.args.node 0) c.in_ok-found.found.element.kind c.args.attribute ≡ true = search rules in
+    unset_done _ _ _ _ _ read taken _ _ (rw c.with-changed.ensures at c.replace.ensures.effect)

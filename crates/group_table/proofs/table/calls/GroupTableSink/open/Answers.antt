@@ -1,39 +1,49 @@
-use Rattle.std.proofs.Common.{vec_items, sym, ap, ◌∙◌, arith}
-use Rattle.record.specs.declared.Record.TheVariants as variants
-use Rattle.group_table.specs.declared.entry.Item.TheVariants.{Opened}
-use Rattle.group_table.proofs.Steps.{opened, parent_within, last_within}
-use Rattle.group_table.proofs.Calls.{open_deep, open_full, open_done}
+use Rattle.std.proofs.Common.{vec_items, refl, ap, ◌∙◌, Err}
+use Rattle.std.proofs.lemmas.Result.{err_from_is_err_and}
+use Rattle.record.specs.declared.Event.TheVariants as variants
+use Rattle.record.specs.Zero.{zeroed_record}
+use Rattle.sink.proofs.Calling.{open_refused}
+use Rattle.group_table.specs.Table.{meaning_of}
+use Rattle.group_table.proofs.Steps.{room_is, parent_within, last_within, within, open_added, child_done, opened}
 use Rattle.group_table.proofs.table.calls.GroupTableSink.open.Goals as goal
 
-pub returns-then-self-ge-MOST_OPEN : goal.returns-then-self-ge-MOST_OPEN
-returns-then-self-ge-MOST_OPEN c =
-    let good = sym c.is_good.ensures ∙ c.if-not-is_good.false in
-    let q = open_deep c.args.self.now c.if-not-self.false c.args.group good c.if-self-ge-MOST_OPEN.true in
+pub returns-in_err-room : goal.returns-in_err-room
+returns-in_err-room c =
+    let t = c.args.self.now in
+    let p = err_from_is_err_and c.from_residual-in_err-room.result c.from_residual-in_err-room.ensures.1 in
+    let fails = c.in_err-room.ensures (meaning_of t) (room_is t c.in_ok-turn.turn c.in_ok-turn.ensures.ok_part) in
+    let q = open_refused (meaning_of t) c.args.group c.in_err-room.field-0.0 c.from_residual-in_err-room.result (p.1 ∙ ap (λ f. Err f) p.2) fails in
     record { answer = q.0; after = q.1 }
 
-pub returns-then-places_left-lt-OPEN_PLACES : goal.returns-then-places_left-lt-OPEN_PLACES
-returns-then-places_left-lt-OPEN_PLACES c =
-    let good = sym c.is_good.ensures ∙ c.if-not-is_good.false in
-    let q = open_full c.args.self.now c.if-not-self.false c.args.group good c.if-self-ge-MOST_OPEN.false (omega (arith, c.places_left.ensures)) in
-    record { answer = q.0; after = q.1 }
+pub pack-requires : goal.pack-requires
+pack-requires c =
+    let t = c.args.self.now in
+    (open_added t c.in_ok-room.room c.args.group (c.in_ok-room.ensures (meaning_of t) (room_is t c.in_ok-turn.turn c.in_ok-turn.ensures.ok_part))).0
 
 pub add_child-place-requires : goal.add_child-place-requires
 add_child-place-requires c =
     let t = c.args.self.now in
-    let room = c.places_left.ensures in
-    record { room = omega arith; parent = parent_within t; last = last_within t }
+    let turn = c.in_ok-turn.turn in
+    let on = c.in_ok-turn.ensures.ok_part in
+    let added = open_added t c.in_ok-room.room c.args.group (c.in_ok-room.ensures (meaning_of t) (room_is t turn on)) in
+    record { room = within t turn on (zeroed_record (variants.Open c.args.group)) _ c.in_ok-room.room added.1; parent = parent_within t turn on; last = last_within t turn on }
 
 pub invariant_of-self : goal.invariant_of-self
 invariant_of-self c =
+    let t = c.args.self.now in
+    let turn = c.in_ok-turn.turn in
+    let on = c.in_ok-turn.ensures.ok_part in
+    let added = open_added t c.in_ok-room.room c.args.group (c.in_ok-room.ensures (meaning_of t) (room_is t turn on)) in
     let a = c.add_child-place in
-    opened c.args.self.now (vec_items a.new.self.memory) a.new.self.count a.ensures.count a.result c.pack.result a.ensures.place a.ensures.memory c.pack.ensures.sound (omega (arith, c.places_left.ensures))
+    opened t turn on c.args.group _ c.in_ok-room.room added.1 c.pack.result c.pack.ensures (vec_items a.new.self.memory) a.new.self.count a.result a.ensures.count a.ensures.place a.ensures.memory
 
 pub returns : goal.returns
 returns c =
+    let t = c.args.self.now in
+    let turn = c.in_ok-turn.turn in
+    let on = c.in_ok-turn.ensures.ok_part in
+    let added = open_added t c.in_ok-room.room c.args.group (c.in_ok-room.ensures (meaning_of t) (room_is t turn on)) in
     let a = c.add_child-place in
-    let room = c.places_left.ensures in
-    let good = sym c.is_good.ensures ∙ c.if-not-is_good.false in
-    let q =
-    open_done c.args.self.now c.if-not-self.false (vec_items a.new.self.memory) a.new.self.count a.ensures.count (omega arith) (Opened c.pack.result) a.ensures.memory
-    c.args.group good c.if-self-ge-MOST_OPEN.false (omega arith) (ap (λ x. variants.Open x) c.pack.ensures.value) in
+    let same = ap (λ g. zeroed_record (variants.Open g)) c.pack.ensures in
+    let q = child_done t turn on (zeroed_record (variants.Open c.args.group)) _ c.in_ok-room.room added.1 (variants.Open c.pack.result) same refl (vec_items a.new.self.memory) a.new.self.count a.ensures.count a.ensures.memory in
     record { answer = q.0; after = q.1 }

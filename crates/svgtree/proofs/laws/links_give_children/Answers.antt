@@ -1,5 +1,0 @@
-use Rattle.svgtree.proofs.Following.{children_there}
-use Rattle.svgtree.proofs.laws.links_give_children.Goals as goal
-
-pub returns : goal.returns
-returns c = children_there
