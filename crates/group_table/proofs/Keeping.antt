@@ -2,7 +2,7 @@
 use Rattle.std.proofs.Common.{◌≡◌, ℕ, zero, suc, ◌+◌, ◌<◌, ◌≤◌, min, true, ◌⊎◌, List, [], ◌∷◌, ◌++◌, map, length, take, set, Some, None, Option, sym, refl, ap, ◌∙◌, subst, inl, inr, add-one, arith}
 use mathlib.Core.List.{map-append}
 use Rattle.std.specs.List.{slice_get}
-use Rattle.std.specs.Option.{ForSome}
+use Rattle.std.specs.Option.{ForSome, ForNone}
 use Rattle.std.proofs.lemmas.List.{length-map, length-set, length-take-le, take_more_set, take_at, get_or-set_same, get_or-set_other}
 use Rattle.std.proofs.lemmas.Bool.{cases_lt, cases_eq, false≢true}
 use Rattle.record.specs.Zero.{zeroed_record}
@@ -15,7 +15,7 @@ use Rattle.group_table.specs.declared.entry.Entry.{Entry}
 use Rattle.group_table.specs.declared.table.Turn.{Turn}
 use Rattle.group_table.specs.Entries.{Item, at, blank, record_of, script_of, Within, new_entry, with_first, with_next, tied}
 use Rattle.group_table.specs.Links.{same, is_child, around, last_below, first_child_of, next_sibling_of}
-use Rattle.group_table.specs.Invariant.{last_child, Ends, GoesOn, meaning_with, LinksOf, Linked}
+use Rattle.group_table.specs.Invariant.{last_child, Ends, GoesOn, AllClosed, meaning_with, LinksOf, Linked}
 use Rattle.group_table.proofs.Scans.{same_refl, same_true, none_some}
 use Rattle.group_table.proofs.Levels.{around_before}
 use Rattle.group_table.proofs.Nesting.{last_child_before}
@@ -70,7 +70,10 @@ abbrev pub Going : List Entry → ℕ → Option Turn → Type 0
 Going es n turn = ForSome turn (λ t. GoesOn es n t.room t.inside t.last)
 
 abbrev pub Whole : List Entry → ℕ → Option Turn → Type 0
-Whole es n turn = record { within : n ≤ min (length es) most_places; going : Going es n turn; linked : Linked es n }
+Whole es n turn = record { within : n ≤ min (length es) most_places; going : Going es n turn; ended : ForNone turn (AllClosed es n); linked : Linked es n }
+
+pub not_ended : (turn : Turn) (P : Type 0) → ForNone (Some turn) P
+not_ended turn P = λ e. let z : ◌≡◌ {A = ℕ} 0 1 = cc in absurd (omega arith)
 
 pub turn_goes_on : (es : List Entry) (n : ℕ) (turn : Turn) → GoesOn es n turn.room turn.inside turn.last → Going es n (Some turn)
 turn_goes_on es n turn is = λ t e. let same : turn ≡ t = cc in subst (λ (u : Turn). GoesOn es n u.room u.inside u.last) same is
@@ -256,7 +259,7 @@ ends_are es n s inside last is a l = rw (is, add-one) (agree inside _ (sym a), a
 
 -- nothing in use, and no turn
 pub fresh : (es : List Entry) → Whole es 0 None
-fresh es = record { within = omega arith; going = λ t e. let z : ◌≡◌ {A = ℕ} 0 1 = cc in absurd (omega arith); linked = λ i h. absurd (omega arith) }
+fresh es = record { within = omega arith; going = λ t e. let z : ◌≡◌ {A = ℕ} 0 1 = cc in absurd (omega arith); ended = λ e. refl; linked = λ i h. absurd (omega arith) }
 
 -- a turn of nothing yet
 pub begun : (es : List Entry) (room : Room) → IsRoomOf room (meaning_with es 0 true) → Whole es 0 (Some (record { room = room; inside = None; last = None }))
@@ -264,5 +267,6 @@ unfolding around last_child last_below
 begun es room is = record {
   within = (fresh es).within;
   going = turn_goes_on es 0 (record { room = room; inside = None; last = None }) (is, (refl, refl));
+  ended = not_ended (record { room = room; inside = None; last = None }) _;
   linked = (fresh es).linked;
 }

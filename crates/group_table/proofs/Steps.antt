@@ -28,7 +28,7 @@ use Rattle.group_table.specs.Bits.{group_of, mark_of}
 use Rattle.group_table.specs.declared.table.Turn.{Turn}
 use Rattle.group_table.specs.declared.table.GroupTable.{GroupTable}
 use Rattle.group_table.specs.Table.{script, meaning_of}
-use Rattle.group_table.proofs.Keeping.{Whole, begun, turn_goes_on, length_script, script_push, script_tied, length_tied, script_child, child_linked, script_new, old_parent, close_linked, record_at, before_at, ends_are}
+use Rattle.group_table.proofs.Keeping.{Whole, not_ended, begun, turn_goes_on, length_script, script_push, script_tied, length_tied, script_child, child_linked, script_new, old_parent, close_linked, record_at, before_at, ends_are}
 
 abbrev pub held : GroupTable → List Entry
 held t = vec_items t.entries.memory
@@ -115,6 +115,7 @@ module _ (t : GroupTable) (turn : Turn) (on : t.turn ≡ Some turn) where
               rw child_meaning added.1,
               ends_are with_child n (s ++ r ∷ []) inside last (script_child es n inside_memory t.linked item turn.inside turn.last parent_is last_is ∙ script_is) a l,
             );
+            ended = not_ended (record { room = more; inside = inside; last = last }) _;
             linked = child_linked es n inside_memory t.linked item turn.inside turn.last parent_is last_is child_same;
           }
 
@@ -187,6 +188,7 @@ module _ (t : GroupTable) (turn : Turn) (on : t.turn ≡ Some turn) where
                   (around_closed longer_script n g closes_here around_n ∙ around_same s variants.Close g (omega (arith, len, before)) ∙ sym (old_parent es n in_memory t.linked g before))
                   (last_child_closed longer_script n g closes_here around_n),
             );
+            ended = not_ended (record { room = more; inside = (at es g).parent; last = Some g }) _;
             linked = close_linked es n in_memory t.linked (Some g) (sym at_g);
           }
 
@@ -213,5 +215,11 @@ begins t room places empty is roomy =
     rw none (begun (held t) room (rw (← is) roomy))
 
 -- a turn that ends leaves the entries
-pub ended : (t : GroupTable) → Passes (end_checks (meaning_of t)) → Is (Ok tt) (meaning_with (held t) t.entries.count false) (end_step (meaning_of t))
-ended t passed = rw (end_accepted (meaning_of t) passed, append-nil (script t)) (refl, refl)
+pub end_done : (t : GroupTable) → Passes (end_checks (meaning_of t)) → Is (Ok tt) (meaning_with (held t) t.entries.count false) (end_step (meaning_of t))
+end_done t passed = rw ((end_accepted (meaning_of t) passed).1, append-nil (script t)) (refl, refl)
+
+pub ended : (t : GroupTable) (turn : Turn) → t.turn ≡ Some turn → Passes (end_checks (meaning_of t)) → Whole (held t) t.entries.count None
+ended t turn on passed =
+    let none = (end_accepted (meaning_of t) passed).0 in
+    let counted = (room_is t turn on).open_groups in
+    record { within = t.within; going = λ u e. let z : ◌≡◌ {A = ℕ} 0 1 = cc in absurd (omega arith); ended = λ e. omega (arith, none, counted); linked = t.linked }

@@ -3,6 +3,7 @@ use Rattle.std.specs.Prelude.{◌≡◌, ℕ, ◌<◌, Bool, true, ◌&&◌, Lis
 use Rattle.std.specs.List.{slice_get}
 use Rattle.record.specs.Records.{Record}
 use Rattle.sink.specs.declared.room.Room.{Room}
+use Rattle.sink.specs.Script.{opens, closes}
 use Rattle.sink.specs.Meaning.{Meaning, unlayered, limit_of}
 use Rattle.sink.specs.Rooms.{IsRoomOf}
 use Rattle.group_table.specs.declared.entry.Entry.{Entry}
@@ -20,6 +21,10 @@ Ends es n inside last = (same inside (around (script_of es n) n) ≡ true) × (s
 -- no base and no rewriting, and as many places as entries
 abbrev pub meaning_with : List Entry → ℕ → Bool → Meaning
 meaning_with es n turn = unlayered (script_of es n) turn (limit_of (length es))
+
+-- each group is closed
+abbrev pub AllClosed : List Entry → ℕ → Type 0
+AllClosed es n = opens (script_of es n) ≡ closes (script_of es n)
 
 -- a turn goes on: it has this room, and goes on after these two
 abbrev pub GoesOn : List Entry → ℕ → Room → Option ℕ → Option ℕ → Type 0

@@ -1,5 +1,6 @@
 ghost use Rattle.group_table.specs.Links.{Innermost, Example};
 
+/// The parent of a record is the innermost of the groups that are open there.
 pub fn parents_stand()
     ensures { Innermost }
 {}

@@ -1,7 +1,7 @@
 ghost use Rattle.std.specs.Prelude.{◌≤◌, min, length};
-ghost use Rattle.std.specs.Option.{ForSome};
+ghost use Rattle.std.specs.Option.{ForSome, ForNone};
 ghost use Rattle.sink.specs.Meaning.{most_places};
-ghost use Rattle.group_table.specs.Invariant.{GoesOn, Linked};
+ghost use Rattle.group_table.specs.Invariant.{GoesOn, AllClosed, Linked};
 
 use crate::entries::Entries;
 use crate::entry::Place;
@@ -29,5 +29,6 @@ pub struct GroupTable {
     turn: Option<Turn>,
     ghost within: { entries.count ≤ min (length entries.memory.items) most_places },
     ghost going: { ForSome turn (λ t. GoesOn entries.memory.items entries.count t.room t.inside t.last) },
+    ghost ended: { ForNone turn (AllClosed entries.memory.items entries.count) },
     ghost linked: { Linked entries.memory.items entries.count },
 }

@@ -1,7 +1,7 @@
 -- What a sink owes, and knows, once a call's checks have spoken. Assumes nothing.
-use Rattle.std.proofs.Common.{◌≡◌, ℕ, ◌+◌, ◌<◌, Bool, true, false, cond, not, leb, List, [], ◌∷◌, ◌++◌, length, replicate, Some, None, Ok, Err, Option, Result, refl, ap, ◌∙◌, subst, arith}
+use Rattle.std.proofs.Common.{◌≡◌, ◌+◌, ◌<◌, Bool, true, false, cond, not, eqb, leb, List, [], ◌∷◌, ◌++◌, length, replicate, Some, None, Ok, Err, Option, Result, refl, ap, ◌∙◌, subst, arith}
 use Rattle.std.proofs.lemmas.Bool.Decides.{nat_tests}
-use Rattle.std.proofs.lemmas.Bool.{not-false}
+use Rattle.std.proofs.lemmas.Bool.{eqb-true, not-false}
 use Rattle.std.proofs.lemmas.List.{length_push}
 use Rattle.refusal.specs.Order.{first_of, unless}
 use Rattle.record.specs.declared.Group.{Group}
@@ -75,8 +75,11 @@ module _ (m : Meaning) where
   pub end_fails : (f : SinkFault) → ◌≡◌ {A = Result (Unit {0}) SinkFault} (Err f) (unless (first_of (end_checks m)) tt) → FailsBy (end_checks m) f
   end_fails f e = unless_err (first_of (end_checks m)) f e
 
-  pub end_accepted : Passes (end_checks m) → (end_step m ≡ record { result = Ok tt; next = with_script m (m.script ++ replicate (length m.base.groups) variants.Close) false })
-  end_accepted passed = call_accepted false (first_of (end_checks m)) _ passed
+  pub end_accepted : Passes (end_checks m) → (level m.script ≡ length m.base.groups) × (end_step m ≡ record { result = Ok tt; next = with_script m (m.script ++ replicate (length m.base.groups) variants.Close) false })
+  end_accepted passed = (
+    eqb-true (level m.script) (length m.base.groups) (not-false (eqb (level m.script) (length m.base.groups)) (second (not m.turn) (not (eqb (level m.script) (length m.base.groups))) OutOfTurn OutOfTurn None passed)),
+    call_accepted false (first_of (end_checks m)) _ passed,
+  )
 
 -- ---- a sink without layers: its script with one record more, and the room that is then there
 

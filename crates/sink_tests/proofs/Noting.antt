@@ -1,26 +1,22 @@
 -- A notebook's calls do what its meaning says. Assumes nothing.
-use Rattle.std.proofs.Common.{◌≡◌, ℕ, ◌+◌, ◌<◌, ◌≤◌, min, Bool, true, false, List, [], ◌∷◌, ◌++◌, map, length, get_or, Some, None, Ok, ℤ, pos, is_some, vec_items, vec_capacity, Option, sym, refl, ap, ◌∙◌, subst, arith}
-use native.Mathlib.Nat.{min-eq_left}
-use Rattle.std.specs.List.{slice_get}
-use Rattle.std.specs.Option.{ForSome}
-use Rattle.std.proofs.lemmas.Option.{slice_get_past, slice_get-get_or}
-use Rattle.std.proofs.lemmas.List.{append-nil, length-map, length_push, map_push, get_or-map}
+use Rattle.std.proofs.Common.{◌≡◌, ℕ, ◌+◌, ◌<◌, ◌≤◌, min, true, false, List, [], ◌∷◌, ◌++◌, map, length, Some, None, Ok, pos, is_some, vec_items, vec_capacity, Option, sym, refl, subst, arith}
+use Rattle.std.specs.Option.{ForSome, ForNone}
+use Rattle.std.proofs.lemmas.List.{append-nil, length-map, map_push}
 use Rattle.record.specs.declared.Group.{Group}
 use Rattle.record.specs.declared.Mark.{Mark}
 use Rattle.record.specs.Records.{Record}
 use Rattle.record.specs.declared.Event.TheVariants as variants
-use Rattle.record.specs.Zero.{zeroed_record, zeroed_group}
+use Rattle.record.specs.Zero.{zeroed_record}
 use Rattle.sink.specs.declared.room.Room.{Room}
 use Rattle.sink.specs.Script.{places}
-use Rattle.sink.specs.Zeroed.{group_twice}
-use Rattle.sink.specs.Meaning.{Meaning, most_places, unlayered, limit_of}
+use Rattle.sink.specs.Meaning.{Meaning, most_places}
 use Rattle.sink.specs.Calls.{Outcome, open_checks, mark_checks, close_checks, end_checks, open_step, mark_step, close_step, end_step, with_script}
 use Rattle.sink.specs.Rooms.{IsRoomOf, Answers}
 use Rattle.sink.proofs.Outcomes.{Is}
 use Rattle.sink.proofs.Calling.{Passes, Adds, fits_in, open_adds, mark_adds, close_adds, end_accepted}
 use Rattle.sink.proofs.Counting.{balance}
 use Rattle.sink_tests.specs.declared.notebook.Notebook.{Notebook}
-use Rattle.sink_tests.specs.Notebooks.{Sound, allowance, limit_from, notebook_meaning}
+use Rattle.sink_tests.specs.Notebooks.{Whole, allowance, limit_from, notebook_meaning}
 
 abbrev pub noted : Notebook → List Record
 noted t = vec_items t.records
@@ -39,6 +35,9 @@ allowed None used most e = let z : ◌≡◌ {A = ℕ} 0 1 = cc in absurd (omega
 -- the room of a turn is that of the notebook in it
 abbrev pub Roomy : List Record → Option ℕ → Option Room → Type 0
 Roomy rs limit turn = ForSome turn (λ room. IsRoomOf room (notebook_meaning rs true limit))
+
+pub not_ended : (room : Room) (P : Type 0) → ForNone (Some room) P
+not_ended room P = λ e. let z : ◌≡◌ {A = ℕ} 0 1 = cc in absurd (omega arith)
 
 roomy_turn : (rs : List Record) (limit : Option ℕ) (room : Room) → IsRoomOf room (notebook_meaning rs true limit) → Roomy rs limit (Some room)
 roomy_turn rs limit room is = λ k e. let same : room ≡ k = cc in subst (λ (j : Room). IsRoomOf j (notebook_meaning rs true limit)) same is
@@ -77,6 +76,15 @@ module _ (t : Notebook) where
     pub close_added : Answers (close_checks (meaning_of t)) (close_step (meaning_of t)) (Ok more) → Adds (meaning_of t) variants.Close (close_step (meaning_of t)) more
     close_added told = (close_adds (map zeroed_record (noted t)) (is_some t.turn) (limit_from t.limit) more told.0 told.1).1
 
-  -- a turn that ends leaves the records
+  -- ---- a turn that ends leaves the records
+
   pub ended : Passes (end_checks (meaning_of t)) → Is (Ok tt) (notebook_meaning (noted t) false t.limit) (end_step (meaning_of t))
-  ended passed = rw (end_accepted (meaning_of t) passed, append-nil (map zeroed_record (noted t))) (refl, refl)
+  ended passed = rw ((end_accepted (meaning_of t) passed).1, append-nil (map zeroed_record (noted t))) (refl, refl)
+
+  pub whole : (turn : Room) → t.turn ≡ Some turn → Passes (end_checks (meaning_of t)) → Whole (map zeroed_record (noted t)) t.limit
+  whole turn on passed =
+      let s = map zeroed_record (noted t) in
+      let is = room_is turn on in
+      let none = (end_accepted (meaning_of t) passed).0 in
+      let used = allowed t.limit (places s + turn.places_left) t.ok.1 is.places_left in
+      (omega (arith, balance s, used, none, is.open_groups), omega (arith, none, is.open_groups))

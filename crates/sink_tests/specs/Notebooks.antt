@@ -1,5 +1,5 @@
 -- What a notebook means, and what holds of one.
-use Rattle.std.specs.Prelude.{◌≡◌, ℕ, ◌+◌, ◌≤◌, Bool, List, map, length, Some, None, Option}
+use Rattle.std.specs.Prelude.{◌≡◌, ℕ, ◌≤◌, Bool, List, map, length, Some, None, Option}
 use Rattle.record.specs.Records.{Record}
 use Rattle.record.specs.Zero.{zeroed_record}
 use Rattle.sink.specs.Script.{opens, closes}
@@ -20,3 +20,7 @@ notebook_meaning rs t limit = unlayered (map zeroed_record rs) t (limit_from lim
 -- the places find room within the memory
 abbrev pub Sound : ℕ → Option ℕ → Type 0
 Sound cap limit = (allowance limit ≤ cap) × (allowance limit ≤ most_places)
+
+-- the script has its places, and each of its groups is closed
+abbrev pub Whole : List Record → Option ℕ → Type 0
+Whole s limit = (length s ≤ allowance limit) × (opens s ≡ closes s)

@@ -1,7 +1,8 @@
-ghost use Rattle.std.specs.Prelude.{◌≡◌, true, false, [], IfOk, is_some, vec_capacity};
-ghost use Rattle.std.specs.Option.{ForSome};
+ghost use Rattle.std.specs.Prelude.{◌≡◌, true, false, [], IfOk, is_some, map, vec_capacity};
+ghost use Rattle.std.specs.Option.{ForSome, ForNone};
+ghost use Rattle.record.specs.Zero.{zeroed_record};
 ghost use Rattle.sink.specs.Rooms.{IsRoomOf};
-ghost use Rattle.sink_tests.specs.Notebooks.{Sound, notebook_meaning};
+ghost use Rattle.sink_tests.specs.Notebooks.{Sound, Whole, notebook_meaning};
 
 use record::{Group, Mark, Record};
 use sink::{Room, Sink, SinkFault};
@@ -16,6 +17,7 @@ pub struct Notebook {
     /// The room of the turn; none out of turn.
     turn: Option<Room>,
     ghost ok: { Sound (vec_capacity records) limit },
+    ghost ended: { ForNone turn (Whole (map zeroed_record records.items) limit) },
     ghost roomy: { ForSome turn (λ room. IsRoomOf room (notebook_meaning records.items true limit)) },
 }
 

@@ -77,6 +77,7 @@ impl Sink for GroupTable {
     fn close(&mut self) -> Result<(), SinkFault> {
         let turn = self.turn.ok_or(SinkFault::OutOfTurn)?;
         let room = turn.room.close()?;
+        // The room could close a group, so one is open.
         let group = turn.inside.unwrap();
         let outside = self.entries.parent_at(group);
         self.entries.add(Item::Close, Some(group));

@@ -2,7 +2,7 @@ use Rattle.std.proofs.Common.{vec_items, ap, ◌∙◌, Err, arith}
 use Rattle.std.proofs.lemmas.Result.{err_from_is_err_and}
 use Rattle.record.specs.declared.Event.TheVariants as variants
 use Rattle.sink.proofs.Calling.{mark_refused}
-use Rattle.sink_tests.proofs.Noting.{meaning_of, room_is, mark_added, within, kept, done}
+use Rattle.sink_tests.proofs.Noting.{meaning_of, room_is, mark_added, within, not_ended, kept, done}
 use Rattle.sink_tests.proofs.notebook.NotebookSink.mark.Goals as goal
 
 pub returns-in_err-room : goal.returns-in_err-room
@@ -24,7 +24,7 @@ invariant_of-self c =
     let s = c.args.self.now in
     let p = c.push_reserved.ensures in
     let added = mark_added s c.in_ok-room.room c.args.mark (c.in_ok-room.ensures (meaning_of s) (room_is s c.in_ok-turn.turn c.in_ok-turn.ensures.ok_part)) in
-    record { ok = rw p.capacity s.ok; roomy = kept s (variants.Mark c.args.mark) _ c.in_ok-room.room added (vec_items c.push_reserved.new.self) p.items }
+    record { ok = rw p.capacity s.ok; ended = not_ended c.in_ok-room.room _; roomy = kept s (variants.Mark c.args.mark) _ c.in_ok-room.room added (vec_items c.push_reserved.new.self) p.items }
 
 pub returns : goal.returns
 returns c =
