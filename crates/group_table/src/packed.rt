@@ -8,6 +8,7 @@ use crate::bits::Bits;
 use geom::Rect;
 use record::{Group, Id, Mark};
 
+/// A group whose floats are kept as bits.
 #[derive(Clone, Copy)]
 pub struct GroupBits {
     pub id: Id,
@@ -16,6 +17,7 @@ pub struct GroupBits {
     opacity: Bits<1>,
 }
 
+/// A mark whose floats are kept as bits.
 #[derive(Clone, Copy)]
 pub struct MarkBits {
     leaf: Id,
