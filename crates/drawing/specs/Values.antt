@@ -79,7 +79,7 @@ MatrixAt line m =
     × Number (word 5 line) m.f
 
 abbrev pub AspectAt : List ℕ → Aspect → Type 0
-AspectAt line a = (named aligns (word 0 line) ≡ Some a.align) × (named slices (word 1 line) ≡ Some a.slice)
+AspectAt line a = AlignAt line a.align × SliceAt (past_word line) a.slice
 
 -- the words of a value of each form
 abbrev pub words_of : Form → List Expected
