@@ -39,5 +39,9 @@ pub(crate) fn spare_group(element: &Element, matrix: Matrix) -> Option<Group>
 {
     let opacity = element.opacity();
     let left_out = is_plain(opacity) && matrix.is_identity() && element.matrix().is_identity();
-    (!left_out).then_some(plain_group(0, matrix, opacity))
+    if left_out {
+        None
+    } else {
+        Some(plain_group(0, matrix, opacity))
+    }
 }

@@ -35,12 +35,11 @@ impl Node {
     }
 
     /// The node with this value of the attribute, or without one.
-    pub(crate) fn with(self, attribute: Attribute, value: Option<Value>) -> Node
+    pub(crate) fn with(mut self, attribute: Attribute, value: Option<Value>) -> Node
         ensures { result ≡ value_changed self attribute value }
     {
-        Node {
-            element: self.element.with(attribute, value),
-            ..self
-        }
+        // In place: by `Element::with` each edit of a document would copy the element twice more.
+        self.element.attributes[attribute.place()] = value;
+        self
     }
 }
