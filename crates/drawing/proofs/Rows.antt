@@ -20,6 +20,11 @@ unfolding missing
 stops [] ys line e m = cc
 stops (x ∷ xs) ys line e m = grind (arith, stops xs ys (past_word line) e)
 
+-- past the words of one row and then of another is past those of both
+past_both : (xs ys : List Expected) (line : List ℕ) → past_words (length ys) (past_words (length xs) line) ≡ past_words (length (xs ++ ys)) line
+past_both [] ys line = refl
+past_both (x ∷ xs) ys line = past_both xs ys (past_word line)
+
 -- n NUMBERS
 
 past_next : (k : ℕ) (line : List ℕ) → past_word (past_words k line) ≡ past_words (suc k) line

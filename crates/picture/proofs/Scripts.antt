@@ -30,6 +30,22 @@ module _ {Group Mark : Type 0} where
   counted_past (one_group g s p) n t = ap (open_after (suc n)) (append_assoc s (closed ∷ []) t) ∙ counted_past p (suc n) (closed ∷ t)
   counted_past (in_turn a b p q) n t = ap (open_after n) (append_assoc a b t) ∙ counted_past p n (b ++ t) ∙ counted_past q n t
 
+  -- counting goes on from where it stands
+  pub open_after_append : (s t : Script Group Mark) (n k : ℕ) → open_after n s ≡ Some k → open_after n (s ++ t) ≡ open_after k t
+  open_after_append [] t n k e = let q : n ≡ k = cc in ap (λ (x : ℕ). open_after x t) q
+  open_after_append (opened g ∷ s) t n k e = open_after_append s t (suc n) k e
+  open_after_append (marked m ∷ s) t n k e = open_after_append s t n k e
+  open_after_append (closed ∷ s) t zero k e = absurd (cc)
+  open_after_append (closed ∷ s) t (suc n) k e = open_after_append s t n k e
+
+  -- what is open below stays open
+  pub open_after_above : (s : Script Group Mark) (n k b : ℕ) → open_after n s ≡ Some k → open_after (n + b) s ≡ Some (k + b)
+  open_after_above [] n k b e = let q : n ≡ k = cc in ap (λ (x : ℕ). Some (x + b)) q
+  open_after_above (opened g ∷ s) n k b e = let q : suc (n + b) ≡ suc n + b = omega arith in ap (λ (x : ℕ). open_after x s) q ∙ open_after_above s (suc n) k b e
+  open_after_above (marked m ∷ s) n k b e = open_after_above s n k b e
+  open_after_above (closed ∷ s) zero k b e = absurd (cc)
+  open_after_above (closed ∷ s) (suc n) k b e = let q : suc n + b ≡ suc (n + b) = omega arith in ap (λ (x : ℕ). open_after x (closed ∷ s)) q ∙ open_after_above s n k b e
+
   pub count_from_balanced : {s : Script Group Mark} → Balanced s → open_after 0 s ≡ Some 0
   count_from_balanced {s} p = ap (open_after 0) (sym (append-nil s)) ∙ counted_past p 0 []
 
@@ -70,6 +86,10 @@ module _ {Group Mark : Type 0} where
   groups_append (opened g ∷ s) t = ap (λ (x : List Group). g ∷ x) (groups_append s t)
   groups_append (marked m ∷ s) t = groups_append s t
   groups_append (closed ∷ s) t = groups_append s t
+
+  pub groups_joined : {X : Type 0} (f : X → Script Group Mark) (xs : List X) → groups_opened (flat_map f xs) ≡ flat_map (λ x. groups_opened (f x)) xs
+  groups_joined f [] = refl
+  groups_joined f (x ∷ xs) = groups_append (f x) (flat_map f xs) ∙ ap (λ (ys : List Group). groups_opened (f x) ++ ys) (groups_joined f xs)
 
   pub marks_append : (s t : Script Group Mark) → marks_made (s ++ t) ≡ marks_made s ++ marks_made t
   marks_append [] t = refl

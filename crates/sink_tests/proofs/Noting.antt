@@ -8,7 +8,7 @@ use Rattle.record.specs.Records.{Record}
 use Rattle.record.specs.declared.Event.TheVariants as variants
 use Rattle.record.specs.Zero.{zeroed_record}
 use Rattle.sink.specs.declared.room.Room.{Room}
-use Rattle.sink.specs.Script.{places}
+use Rattle.sink.specs.Script.{opens, closes, places}
 use Rattle.sink.specs.Meaning.{Meaning, most_places}
 use Rattle.sink.specs.Calls.{Outcome, open_checks, mark_checks, close_checks, end_checks, open_step, mark_step, close_step, end_step, with_script}
 use Rattle.sink.specs.Rooms.{IsRoomOf, Answers}
@@ -26,6 +26,19 @@ meaning_of t = notebook_meaning (noted t) (is_some t.turn) t.limit
 
 pos_same : (a b : ℕ) → pos a ≡ pos b → a ≡ b
 pos_same a b e = cc
+
+-- a script without the signs of its zeros opens and closes as many groups
+zeroed_opens : (rs : List Record) → opens (map zeroed_record rs) ≡ opens rs
+zeroed_opens [] = refl
+zeroed_opens (variants.Open g ∷ rs) = rw (zeroed_opens rs) refl
+zeroed_opens (variants.Mark m ∷ rs) = zeroed_opens rs
+zeroed_opens (variants.Close ∷ rs) = zeroed_opens rs
+
+zeroed_closes : (rs : List Record) → closes (map zeroed_record rs) ≡ closes rs
+zeroed_closes [] = refl
+zeroed_closes (variants.Open g ∷ rs) = zeroed_closes rs
+zeroed_closes (variants.Mark m ∷ rs) = zeroed_closes rs
+zeroed_closes (variants.Close ∷ rs) = rw (zeroed_closes rs) refl
 
 -- places that are within the limit are within the memory
 allowed : (limit : Option ℕ) (used : ℕ) → allowance limit ≤ most_places → (limit_from limit).number ≡ pos used → used ≤ allowance limit
